@@ -1,0 +1,4 @@
+pub mod Cause
+pub mod Laws
+pub mod Question
+pub mod Refusal

@@ -1,0 +1,5 @@
+// The words that every layer shares: refusals, causes, faults, and the laws of ordered questions.
+pub mod cause;
+pub mod fault;
+pub mod laws;
+pub mod refusal;
