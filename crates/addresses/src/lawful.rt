@@ -51,7 +51,7 @@ fn number(octets: &[u8]) -> bool
     semis(*count, digits)
 }
 
-fn content(kind: u8, octets: &[u8]) -> bool
+pub(crate) fn content(kind: u8, octets: &[u8]) -> bool
     ensures { λ r. ⌜ r ≡ contentFine kind (now (octets .entry)) ⌝ }
 {
     match kind {

