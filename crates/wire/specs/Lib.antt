@@ -1,4 +1,5 @@
 pub mod Address
+pub mod Back
 pub mod Code
 pub mod Format
 pub mod Header
@@ -6,3 +7,4 @@ pub mod Kind
 pub mod Number
 pub mod Pdu
 pub mod Segment
+pub mod Written
