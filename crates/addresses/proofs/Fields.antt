@@ -3,13 +3,12 @@ use mathlib.Core.Bool.{Bool, true, false, cond, _&&_}
 use mathlib.Core.List.{List, [], _∷_, _++_}
 use Prim.Native.Nat.{ℕ, zero, suc, _+_, _-_, _*_, _/_, _%_, _≤_, _<_}
 use native.Mathlib.Omega.{arith}
-use native.Mathlib.Numerals.{add-one}
 use lib.ListN.{length, getD, take, drop, length-drop}
 use lib.Dec.{leb, eqb}
 use borrow.Author.Tests.{leb-true, eqb-true, eq-eqb}
 use Rattle.std.proofs.shelf.Lists.{take-rest}
 use Rattle.wire.specs.Address.{numberTypeFine, semisFine, numberFine, contentFine, contentSize, LawfulField}
-use Rattle.addresses.specs.Field.{isField, ipv6Field}
+use Rattle.addresses.specs.Field.{isField}
 
 and-left : (a b : Bool) → (a && b) ≡ true → a ≡ true
 and-left true b e = refl
@@ -48,28 +47,16 @@ field-lawful xs e =
 pub field-some : (xs : List ℕ) → isField xs ≡ true → 1 ≤ length xs
 field-some xs e = omega (arith, field-lawful xs e .0)
 
-pub field-short : (xs : List ℕ) → isField xs ≡ true → length xs ≤ 17
-field-short xs e = omega (arith, content-short (getD xs 0 0 / 32) (drop 1 xs) (field-lawful xs e .1), length-drop 1 xs)
-
 split : (xs : List ℕ) → 1 ≤ length xs → getD xs 0 0 ∷ drop 1 xs ≡ xs
 split [] h = absurd (omega arith)
 split (x ∷ xs) h = refl
 
--- octets that were taken apart and laid again
-pub whole-again : (xs o : List ℕ) → 1 ≤ length xs → take (1 + length (take (length xs - 1) (drop 1 xs))) o ≡ getD xs 0 0 ∷ take (length xs - 1) (drop 1 xs) → take (length xs) o ≡ xs
-whole-again xs o h e =
-    let t = take-rest xs 1 in
-    let n : length xs ≡ 1 + length (take (length xs - 1) (drop 1 xs)) = omega (arith, ap length t, length-drop 1 xs) in
-    ap (λ k. take k o) n ∙ e ∙ ap (λ v. getD xs 0 0 ∷ v) t ∙ split xs h
+-- octets that are taken apart and put together again
+pub field-again : (xs : List ℕ) → isField xs ≡ true → getD xs 0 0 ∷ take (length xs - 1) (drop 1 xs) ≡ xs
+field-again xs f = ap (λ v. getD xs 0 0 ∷ v) (take-rest xs 1) ∙ split xs (field-some xs f)
 
-pub kept-lawful : (xs o : List ℕ) → take (length xs) o ≡ xs → LawfulField xs → LawfulField (take (length xs) o)
-kept-lawful xs o e l = let P : List ℕ → Type 0 = LawfulField in subst P (sym e) l
+pub again-lawful : (xs : List ℕ) → isField xs ≡ true → LawfulField (getD xs 0 0 ∷ take (length xs - 1) (drop 1 xs))
+again-lawful xs f = let P : List ℕ → Type 0 = LawfulField in subst P (sym (field-again xs f)) (field-lawful xs f)
 
-pub ipv6-lawful : (a o : List ℕ) → length a ≡ 16 → take (1 + length a) o ≡ 48 ∷ a → LawfulField (take 17 o) × (take 17 o ≡ ipv6Field a)
-ipv6-lawful a o l e =
-    let t : take 17 o ≡ 48 ∷ a = ap (λ k. take (1 + k) o) (sym l) ∙ e in
-    let P : List ℕ → Type 0 = LawfulField in
-    (subst P (sym t) (omega arith, eq-eqb (length a) 16 l), t)
-
-pub part-is : (n : ℕ) (o : List ℕ) → take (n - 0) (drop 0 o) ≡ take n o
-part-is n o = let z : n - 0 ≡ n = omega arith in ap (λ k. take k o) z
+pub again-short : (xs : List ℕ) → isField xs ≡ true → length (take (length xs - 1) (drop 1 xs)) ≤ 16
+again-short xs f = omega (arith, ap length (take-rest xs 1), content-short (getD xs 0 0 / 32) (drop 1 xs) (field-lawful xs f .1))

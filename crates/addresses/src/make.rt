@@ -7,6 +7,7 @@ ghost use Rattle.std.specs.declared.option.Option.the-variants.{None, Some};
 ghost use Rattle.std.specs.Options.{mapped};
 ghost use Rattle.terms.specs.Question.{told};
 ghost use Rattle.terms.specs.Refusal.{must};
+ghost use Rattle.wire.specs.Address.{LawfulField};
 ghost use Rattle.wire.specs.Number.{lawfulText, digitsOf, numberField};
 ghost use Rattle.addresses.specs.Field.{fieldOf, fieldTold, ipv4Field, ipv6Field, isField};
 use crate::field::AddressField;
@@ -26,6 +27,17 @@ fn headed(head: u8, content: &[u8]) -> [u8; 17]
     octets[0] = head;
     octets[1..1 + content.len()].copy_from_slice(content);
     octets
+}
+
+// The field of an address octet and what follows it.
+fn fixed(head: u8, content: &[u8]) -> AddressField
+    requires { ⌜ LawfulField (head ∷ now content) ⌝ ∗ ⌜ length (now content) ≤ 16 ⌝ }
+    ensures { λ r. ⌜ fieldOf r ≡ head ∷ now (content .entry) ⌝ }
+{
+    AddressField {
+        octets: headed(head, content),
+        len: 1 + content.len(),
+    }
 }
 
 // Whether the octets are an address field, no more and no less.
@@ -57,23 +69,24 @@ fn number_field(digits: &[u8], kind: NumberType) -> AddressField
     }
 }
 
+fn front(octets: &[u8; 17], n: usize) -> &[u8]
+    requires { ⌜ n ≤ 17 ⌝ }
+    ensures { λ r. ⌜ now r ≡ take n (now (octets .entry)) ⌝ }
+{
+    &octets[0..n]
+}
+
 impl AddressField {
     pub fn ipv4(address: [u8; 4]) -> AddressField
         ensures { λ r. ⌜ fieldOf r ≡ ipv4Field address ⌝ }
     {
-        AddressField {
-            octets: headed(4, &address),
-            len: 5,
-        }
+        fixed(0 * 32 + 4, &address)
     }
 
     pub fn ipv6(address: [u8; 16]) -> AddressField
         ensures { λ r. ⌜ fieldOf r ≡ ipv6Field address ⌝ }
     {
-        AddressField {
-            octets: headed(1 * 32 + 16, &address),
-            len: 17,
-        }
+        fixed(1 * 32 + 16, &address)
     }
 
     // The field of a number given as text; refused where the text is not 1 to 20 lawful characters.
@@ -94,16 +107,13 @@ impl AddressField {
         if !is_field(octets) {
             return None;
         }
-        Some(AddressField {
-            octets: headed(octets[0], &octets[1..]),
-            len: octets.len(),
-        })
+        Some(fixed(octets[0], &octets[1..]))
     }
 
     // Its octets, the address octet first.
     pub fn as_slice(&self) -> &[u8]
         ensures { λ r. ⌜ now r ≡ fieldOf (now (self .entry)) ⌝ }
     {
-        &self.octets[0..self.len]
+        front(&self.octets, self.len)
     }
 }

@@ -1,7 +1,7 @@
 ghost use mathlib.Core.Path.{_≡_};
 ghost use mathlib.Core.Bool.{true};
 ghost use mathlib.Core.List.{_∷_};
-ghost use Prim.Native.Nat.{_+_, _<_};
+ghost use Prim.Native.Nat.{_+_, _*_, _<_};
 ghost use lib.ListN.{length, drop};
 ghost use Rattle.wire.specs.Number.{semiOf, digitOf, digitsOf, allDigits, lawfulText, packed};
 
@@ -45,6 +45,14 @@ fn digit(c: u8) -> u8
     semi_octet(c as char).unwrap_or(0)
 }
 
+// Two halves of an octet, the first digit in the low one.
+fn halves(low: u8, high: u8) -> u8
+    requires { ⌜ low < 16 ⌝ ∗ ⌜ high < 16 ⌝ }
+    ensures { λ r. ⌜ r ≡ low + high * 16 ⌝ }
+{
+    high * 16 + low
+}
+
 // The octet of the digits at `i` and behind it; 15 fills the high half beside an odd last digit.
 pub(crate) fn pair(text: &[u8], i: usize) -> u8
     requires { ⌜ i < length (now text) ⌝ }
@@ -52,7 +60,7 @@ pub(crate) fn pair(text: &[u8], i: usize) -> u8
 {
     let low = digit(text[i]);
     if i + 1 < text.len() {
-        return low + digit(text[i + 1]) * 16;
+        return halves(low, digit(text[i + 1]));
     }
-    low + 15 * 16
+    halves(low, 15)
 }

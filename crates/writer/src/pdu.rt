@@ -61,6 +61,61 @@ fn write_bodied(
     Ok(1 + a + h + user.len())
 }
 
+fn put_data(first: u8, payload: Payload<'_>, out: &mut [u8]) -> Result<usize, Refusal>
+    requires { ⌜ first ≡ opening Kind.Data (payload .more) ⌝ }
+    ensures answer { λ r. ⌜ r ≡ answerOf (octets-of (dataOf (payload .entry))) (now (out .entry)) ⌝ }
+    ensures after { λ _. ⌜ now (out .exit) ≡ leftIn (octets-of (dataOf (payload .entry))) (now (out .entry)) ⌝ }
+    ensures back { λ r. ⌜ ReadsAs (dataOf (payload .entry)) r (now (out .exit)) ⌝ }
+{
+    write_bodied(
+        out,
+        first,
+        &[],
+        payload.ports,
+        payload.segment,
+        payload.user,
+    )
+}
+
+fn put_data_long(
+    first: u8,
+    address: &AddressField,
+    payload: Payload<'_>,
+    out: &mut [u8],
+) -> Result<usize, Refusal>
+    requires { ⌜ first ≡ opening Kind.DataLong (payload .more) ⌝ }
+    ensures answer { λ r. ⌜ r ≡ answerOf (octets-of (longOf (fieldOf (now (address .entry))) (payload .entry))) (now (out .entry)) ⌝ }
+    ensures after { λ _. ⌜ now (out .exit) ≡ leftIn (octets-of (longOf (fieldOf (now (address .entry))) (payload .entry))) (now (out .entry)) ⌝ }
+    ensures back { λ r. ⌜ ReadsAs (longOf (fieldOf (now (address .entry))) (payload .entry)) r (now (out .exit)) ⌝ }
+{
+    write_bodied(
+        out,
+        first,
+        address.as_slice(),
+        payload.ports,
+        payload.segment,
+        payload.user,
+    )
+}
+
+fn put_error(first: u8, code: ErrorCode, out: &mut [u8]) -> Result<usize, Refusal>
+    requires { ⌜ first ≡ opening Kind.Error false ⌝ }
+    ensures answer { λ r. ⌜ r ≡ answerOf (octets-of (error-of code)) (now (out .entry)) ⌝ }
+    ensures after { λ _. ⌜ now (out .exit) ≡ leftIn (octets-of (error-of code)) (now (out .entry)) ⌝ }
+    ensures back { λ r. ⌜ ReadsAs (error-of code) r (now (out .exit)) ⌝ }
+{
+    write_all(out, &[first, code.number()])
+}
+
+fn put_release(first: u8, code: ReleaseCode, out: &mut [u8]) -> Result<usize, Refusal>
+    requires { ⌜ first ≡ opening Kind.Release false ⌝ }
+    ensures answer { λ r. ⌜ r ≡ answerOf (octets-of (release-of code)) (now (out .entry)) ⌝ }
+    ensures after { λ _. ⌜ now (out .exit) ≡ leftIn (octets-of (release-of code)) (now (out .entry)) ⌝ }
+    ensures back { λ r. ⌜ ReadsAs (release-of code) r (now (out .exit)) ⌝ }
+{
+    write_all(out, &[first, code.number()])
+}
+
 // Each call below writes one PDU at the head of a buffer and tells how many octets it has; those beyond are kept. A buffer
 // that is too small is refused and left as it was. Whoever reads the octets that were told has the PDU that was given.
 
@@ -69,14 +124,7 @@ pub fn write_data(payload: Payload<'_>, out: &mut [u8]) -> Result<usize, Refusal
     ensures after { λ _. ⌜ now (out .exit) ≡ leftIn (octets-of (dataOf (payload .entry))) (now (out .entry)) ⌝ }
     ensures back { λ r. ⌜ ReadsAs (dataOf (payload .entry)) r (now (out .exit)) ⌝ }
 {
-    write_bodied(
-        out,
-        first_octet(Kind::Data, payload.more),
-        &[],
-        payload.ports,
-        payload.segment,
-        payload.user,
-    )
+    put_data(first_octet(Kind::Data, payload.more), payload, out)
 }
 
 pub fn write_data_long(
@@ -88,13 +136,11 @@ pub fn write_data_long(
     ensures after { λ _. ⌜ now (out .exit) ≡ leftIn (octets-of (longOf (fieldOf (now (address .entry))) (payload .entry))) (now (out .entry)) ⌝ }
     ensures back { λ r. ⌜ ReadsAs (longOf (fieldOf (now (address .entry))) (payload .entry)) r (now (out .exit)) ⌝ }
 {
-    write_bodied(
-        out,
+    put_data_long(
         first_octet(Kind::DataLong, payload.more),
-        address.as_slice(),
-        payload.ports,
-        payload.segment,
-        payload.user,
+        address,
+        payload,
+        out,
     )
 }
 
@@ -111,7 +157,7 @@ pub fn write_error(code: ErrorCode, out: &mut [u8]) -> Result<usize, Refusal>
     ensures after { λ _. ⌜ now (out .exit) ≡ leftIn (octets-of (error-of code)) (now (out .entry)) ⌝ }
     ensures back { λ r. ⌜ ReadsAs (error-of code) r (now (out .exit)) ⌝ }
 {
-    write_all(out, &[first_octet(Kind::Error, false), code.number()])
+    put_error(first_octet(Kind::Error, false), code, out)
 }
 
 pub fn write_release(code: ReleaseCode, out: &mut [u8]) -> Result<usize, Refusal>
@@ -119,5 +165,5 @@ pub fn write_release(code: ReleaseCode, out: &mut [u8]) -> Result<usize, Refusal
     ensures after { λ _. ⌜ now (out .exit) ≡ leftIn (octets-of (release-of code)) (now (out .entry)) ⌝ }
     ensures back { λ r. ⌜ ReadsAs (release-of code) r (now (out .exit)) ⌝ }
 {
-    write_all(out, &[first_octet(Kind::Release, false), code.number()])
+    put_release(first_octet(Kind::Release, false), code, out)
 }

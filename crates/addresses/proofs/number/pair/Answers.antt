@@ -15,10 +15,12 @@ returns-then-i-text c =
     packed-two t i (omega arith)
     ∙ ap (λ d. (d + digitOf (getD t (i + 1) 0) * 16) ∷ behind) (sym (c .digit-low .ensures .value))
     ∙ ap (λ d. (c .digit-low .result + d * 16) ∷ behind) (sym (c .digit .ensures .value))
+    ∙ ap (λ x. x ∷ behind) (sym (c .halves .ensures))
 
 pub returns : need.returns
 returns c =
     let t = c .args .text .now in
     let i = c .args .i in
+    let behind = packed (drop (i + 2) (digitsOf t)) in
     let e : i + 1 ≡ length t = omega arith in
-    packed-one t i e ∙ ap (λ d. (d + 240) ∷ packed (drop (i + 2) (digitsOf t))) (sym (c .digit-low .ensures .value))
+    packed-one t i e ∙ ap (λ d. (d + 15 * 16) ∷ behind) (sym (c .digit-low .ensures .value)) ∙ ap (λ x. x ∷ behind) (sym (c .halves-2 .ensures))
