@@ -1,3 +1,7 @@
+ghost use mathlib.Core.Path.{_≡_};
+ghost use mathlib.Core.List.{map};
+ghost use Rattle.std.specs.Of.String.{string-bytes};
+ghost use Rattle.console.specs.Command.{commandNamed, commandAsked};
 use std::fmt;
 
 // What the program is asked to do.
@@ -17,7 +21,9 @@ pub enum Misuse {
 
 impl Command {
     // The command of a name.
-    pub fn named(name: &str) -> Option<Command> {
+    pub fn named(name: &str) -> Option<Command>
+        ensures { λ r. ⌜ r ≡ commandNamed (now (name .entry)) ⌝ }
+    {
         match name {
             "strings" => Some(Command::Strings),
             "help" => Some(Command::Help),
@@ -26,11 +32,13 @@ impl Command {
     }
 
     // The command that the arguments ask for; the program's own name is none of them.
-    pub fn asked(words: &[String]) -> Result<Command, Misuse> {
-        let Some(word) = words.first() else {
+    pub fn asked(words: &[String]) -> Result<Command, Misuse>
+        ensures { λ r. ⌜ r ≡ commandAsked (map string-bytes (now (words .entry))) ⌝ }
+    {
+        if words.is_empty() {
             return Err(Misuse::NoCommand);
-        };
-        let Some(command) = Command::named(word.as_str()) else {
+        }
+        let Some(command) = Command::named(words[0].as_str()) else {
             return Err(Misuse::NoSuchCommand);
         };
         if words.len() > 1 {
@@ -52,4 +60,33 @@ pub impl fmt::Display for Misuse as MisuseDisplay {
 }
 
 // What `help` writes.
-pub const HELP: &str = "x";
+pub const HELP: &str = "kurbelna COMMAND
+
+kurbelna strings
+  Reads strings from standard input, one a line in hex, and tells the PDU that each one holds, or its fault.
+  Capital and small digits, spaces between octets; - is the empty string; lines that begin with # are passed over.
+  Example: echo 04040A0000010605 0423F1C0006F6B | kurbelna strings
+
+kurbelna help
+  Writes this text.
+  Example: kurbelna help
+
+Lines that begin in column one are results, one for each string. Lines that are indented explain the result above them.
+  data more=0 to=9201 from=49152 piece=- user=8:6F6B
+      Data: more to send 0 or 1, destination and source port, the piece, and the user octets with their place.
+      A piece is reference/count/sequence, or - where the datagram was not cut.
+  data_long more=1 address=ipv4:10.0.0.1 to=9201 from=49152 piece=0/2/1 user=18:6F6B
+      Data_Long: the same with an address, which is ipv4:, ipv6: or msisdn: and then its text.
+  rr
+      RR: ready to receive.
+  error code=1
+      Error: 0 unknown, 1 protocol error, 2 version, 3 external addressing not supported.
+  rd code=3
+      RD, a release: 0 unknown, 1 timer, 2 idle, 3 user.
+  fault cause=45 place=6 layer=header
+      The string is no PDU. The place is the offset of the first offending octet. Causes: 41 empty string, 42 no such
+      type or code, or more to send in RR, Error or RD, 43 version, 44 address field, 45 header, 46 too few or too
+      many octets in RR, Error or RD.
+  refused input line 7: not hex
+      The line holds no string: not hex, odd count of hex digits, or above 160 octets.
+";

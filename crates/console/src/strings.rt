@@ -1,3 +1,7 @@
+ghost use mathlib.Core.Path.{_≡_};
+ghost use Rattle.std.specs.Vec.{made};
+ghost use Rattle.console.specs.Line.{meaning, withoutEnd};
+ghost use Rattle.console.specs.Tally.{none, countedSound, countedString, countedLine};
 use crate::line::Line;
 use crate::line::Reason;
 use crate::line::ReasonDisplay;
@@ -29,7 +33,9 @@ pub struct Tally {
 }
 
 impl Tally {
-    pub fn new() -> Tally {
+    pub fn new() -> Tally
+        ensures { λ r. ⌜ r ≡ none ⌝ }
+    {
         Tally {
             lines: 0,
             sound: 0,
@@ -81,12 +87,29 @@ impl fmt::Display for Explained<'_> as ExplainedDisplay {
     }
 }
 
-fn explain(heap: Global, tally: &mut Tally, string: &[u8]) -> Result<String, AllocError> {
-    let read = reader::read(string);
-    match read {
-        Ok(_) => tally.sound = tally.sound.saturating_add(1),
-        Err(_) => tally.broken = tally.broken.saturating_add(1),
+// The tally with one string more.
+fn counted(tally: Tally, sound: bool) -> Tally
+    ensures { λ r. ⌜ r ≡ countedSound sound tally ⌝ }
+{
+    if sound {
+        return Tally {
+            lines: tally.lines,
+            sound: tally.sound.saturating_add(1),
+            broken: tally.broken,
+        };
     }
+    Tally {
+        lines: tally.lines,
+        sound: tally.sound,
+        broken: tally.broken.saturating_add(1),
+    }
+}
+
+fn explain(heap: Global, tally: &mut Tally, string: &[u8]) -> Result<String, AllocError>
+    ensures { λ _. ⌜ now (tally .exit) ≡ countedString (now (string .entry)) (now (tally .entry)) ⌝ }
+{
+    let read = reader::read(string);
+    *tally = counted(*tally, read.is_ok());
     let steps = steps(heap, string, read)?;
     let answer = Explained {
         string,
@@ -96,8 +119,10 @@ fn explain(heap: Global, tally: &mut Tally, string: &[u8]) -> Result<String, All
     format!(heap, "{answer}")
 }
 
-// What is answered to a line of input; the tally counts it.
-pub fn answer(heap: Global, tally: &mut Tally, line: &[u8]) -> Result<String, AllocError> {
+// What is answered to a line of input; the tally counts the line, and the string if it holds one.
+pub fn answer(heap: Global, tally: &mut Tally, line: &[u8]) -> Result<String, AllocError>
+    ensures { λ r. ⌜ made r (λ _. now (tally .exit) ≡ countedLine (meaning (withoutEnd (now (line .entry)))) (now (tally .entry))) ⌝ }
+{
     tally.lines = tally.lines.saturating_add(1);
     match read_line(heap, without_end(line))? {
         Line::PassedOver => Ok(String::new(heap)),

@@ -1,0 +1,3 @@
+pub mod AddressRules
+pub mod HeaderRules
+pub mod Rules

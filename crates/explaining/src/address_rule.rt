@@ -1,3 +1,9 @@
+ghost use mathlib.Core.Path.{_≡_};
+ghost use mathlib.Core.Bool.{not};
+ghost use Rattle.std.specs.Options.{isSome};
+ghost use Rattle.terms.specs.Question.{firstNo};
+ghost use Rattle.wire.specs.Address.{addressFine};
+ghost use Rattle.explaining.specs.AddressRules.{halfQuestions, digitsQuestions, numberQuestions, contentQuestions, fieldQuestions};
 use std::fmt;
 
 // What is wrong with an octet of two digits.
@@ -27,23 +33,24 @@ pub enum AddressRule {
 const DIGITS: usize = 4;
 
 // What is wrong with an octet that has the next two of `left` digits, if anything.
-fn half_rule(left: u8, x: u8) -> Option<Half> {
+fn half_rule(left: u8, x: u8) -> Option<Half>
+    ensures { λ r. ⌜ r ≡ firstNo (halfQuestions left x) ⌝ }
+{
     if x % 16 == 15 {
         return Some(Half::LowFifteen);
     }
-    if left == 1 {
-        if x / 16 != 15 {
-            return Some(Half::NotFilled);
-        }
-        return None;
+    if left == 1 && x / 16 != 15 {
+        return Some(Half::NotFilled);
     }
-    if x / 16 == 15 {
+    if left != 1 && x / 16 == 15 {
         return Some(Half::HighFifteen);
     }
     None
 }
 
-fn digits_rule(count: u8, octets: &[u8]) -> Option<AddressRule> {
+fn digits_rule(count: u8, octets: &[u8]) -> Option<AddressRule>
+    ensures { λ r. ⌜ r ≡ firstNo (digitsQuestions count 4 (now (octets .entry))) ⌝ }
+{
     let mut rest = octets;
     let mut left = count;
     let mut place = DIGITS;
@@ -56,13 +63,15 @@ fn digits_rule(count: u8, octets: &[u8]) -> Option<AddressRule> {
             });
         }
         left = left.saturating_sub(2);
-        place = place.saturating_add(1);
+        place += 1;
         rest = tail;
     }
     None
 }
 
-fn number_rule(octets: &[u8]) -> Option<AddressRule> {
+fn number_rule(octets: &[u8]) -> Option<AddressRule>
+    ensures { λ r. ⌜ r ≡ firstNo (numberQuestions (now (octets .entry))) ⌝ }
+{
     let [count, kind, digits @ ..] = octets else {
         return Some(AddressRule::NumberShort(octets.len()));
     };
@@ -81,7 +90,9 @@ fn number_rule(octets: &[u8]) -> Option<AddressRule> {
     digits_rule(*count, digits)
 }
 
-fn content_rule(kind: u8, octets: &[u8]) -> Option<AddressRule> {
+fn content_rule(kind: u8, octets: &[u8]) -> Option<AddressRule>
+    ensures { λ r. ⌜ r ≡ firstNo (contentQuestions kind (now (octets .entry))) ⌝ }
+{
     match kind {
         0 => {
             if octets.len() == 4 {
@@ -99,8 +110,11 @@ fn content_rule(kind: u8, octets: &[u8]) -> Option<AddressRule> {
     }
 }
 
-// What is wrong with the address field at the head of the octets, if anything.
-pub fn address_rule(octets: &[u8]) -> Option<AddressRule> {
+// What is wrong with the address field at the head of the octets; nothing exactly where it is lawful.
+pub fn broken_in(octets: &[u8]) -> Option<AddressRule>
+    ensures first { λ r. ⌜ r ≡ firstNo (fieldQuestions (now (octets .entry))) ⌝ }
+    ensures agrees { λ r. ⌜ isSome r ≡ not (addressFine (now (octets .entry))) ⌝ }
+{
     let [head, tail @ ..] = octets else {
         return Some(AddressRule::Missing);
     };

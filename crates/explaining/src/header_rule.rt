@@ -1,3 +1,9 @@
+ghost use mathlib.Core.Path.{_≡_};
+ghost use mathlib.Core.Bool.{not};
+ghost use Rattle.std.specs.Options.{isSome, valueOr};
+ghost use Rattle.terms.specs.Question.{firstNo};
+ghost use Rattle.wire.specs.Header.{fineOf};
+ghost use Rattle.explaining.specs.HeaderRules.{segmentQuestions, contentQuestions, elementQuestions, lengthQuestions};
 use std::fmt;
 
 // What is wrong with a header.
@@ -15,7 +21,9 @@ pub enum HeaderRule {
     SequenceAbove { sequence: u8, count: u8 },
 }
 
-fn segment_rule(octets: &[u8]) -> Option<HeaderRule> {
+fn segment_rule(octets: &[u8]) -> Option<HeaderRule>
+    ensures { λ r. ⌜ r ≡ firstNo (segmentQuestions (now (octets .entry))) ⌝ }
+{
     let [_reference, count, sequence] = octets else {
         return Some(HeaderRule::SegmentLength(octets.len()));
     };
@@ -34,8 +42,11 @@ fn segment_rule(octets: &[u8]) -> Option<HeaderRule> {
     None
 }
 
-// What is wrong with a whole element of a type, if anything.
-pub fn content_rule(kind: u8, octets: &[u8]) -> Option<HeaderRule> {
+// What is wrong with a whole element of a type; nothing exactly where it is fine.
+pub fn content_rule(kind: u8, octets: &[u8]) -> Option<HeaderRule>
+    ensures first { λ r. ⌜ r ≡ firstNo (contentQuestions kind (now (octets .entry))) ⌝ }
+    ensures agrees { λ r. ⌜ isSome r ≡ not (fineOf kind (now (octets .entry))) ⌝ }
+{
     match kind {
         0x05 => {
             if octets.len() == 4 {
@@ -49,7 +60,9 @@ pub fn content_rule(kind: u8, octets: &[u8]) -> Option<HeaderRule> {
 }
 
 // What is wrong with the element at the head of a header's octets, if anything.
-pub fn element_rule(rest: &[u8]) -> Option<HeaderRule> {
+pub fn element_rule(rest: &[u8]) -> Option<HeaderRule>
+    ensures { λ r. ⌜ r ≡ firstNo (elementQuestions (now (rest .entry))) ⌝ }
+{
     let [kind, len, tail @ ..] = rest else {
         return Some(HeaderRule::NoLength);
     };
@@ -64,7 +77,9 @@ pub fn element_rule(rest: &[u8]) -> Option<HeaderRule> {
 }
 
 // What is wrong with a header by its length octet, which stands at the head of the octets; it lacks ports where it lies within them.
-pub fn length_rule(octets: &[u8]) -> HeaderRule {
+pub fn length_rule(octets: &[u8]) -> HeaderRule
+    ensures { λ r. ⌜ r ≡ valueOr (firstNo (lengthQuestions (now (octets .entry)))) HeaderRule.NoPorts ⌝ }
+{
     let [len, tail @ ..] = octets else {
         return HeaderRule::Missing;
     };

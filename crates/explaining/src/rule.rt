@@ -1,6 +1,8 @@
+ghost use mathlib.Core.Path.{_≡_};
+ghost use Rattle.explaining.specs.Rules.{causeOf};
 use crate::address_rule::AddressRule;
 use crate::address_rule::AddressRuleDisplay;
-use crate::address_rule::address_rule;
+use crate::address_rule::broken_in;
 use crate::header_rule::HeaderRule;
 use crate::header_rule::HeaderRuleDisplay;
 use crate::header_rule::element_rule;
@@ -29,7 +31,7 @@ pub enum Rule {
 }
 
 // The place of the header's length octet in Data or Data_Long, whose address field is lawful.
-pub fn header_place(s: &[u8]) -> usize {
+pub(crate) fn header_place(s: &[u8]) -> usize {
     match s {
         [first, head, ..] => match kind_of(*first) {
             Some(Kind::DataLong) => 2 + *head as usize % 32,
@@ -39,7 +41,9 @@ pub fn header_place(s: &[u8]) -> usize {
     }
 }
 
-fn kind_rule(s: &[u8], place: usize) -> Rule {
+fn kind_rule(s: &[u8], place: usize) -> Rule
+    ensures { λ r. ⌜ causeOf r ≡ Cause.Kind ⌝ }
+{
     let [first, tail @ ..] = s else {
         return Rule::Other(Cause::Kind);
     };
@@ -52,7 +56,9 @@ fn kind_rule(s: &[u8], place: usize) -> Rule {
     }
 }
 
-fn count_rule(s: &[u8]) -> Rule {
+fn count_rule(s: &[u8]) -> Rule
+    ensures { λ r. ⌜ causeOf r ≡ Cause.OctetCount ⌝ }
+{
     let [first, tail @ ..] = s else {
         return Rule::Other(Cause::OctetCount);
     };
@@ -65,11 +71,13 @@ fn count_rule(s: &[u8]) -> Rule {
     Rule::TooMany(kind)
 }
 
-fn field_rule(s: &[u8]) -> Rule {
+fn field_rule(s: &[u8]) -> Rule
+    ensures { λ r. ⌜ causeOf r ≡ Cause.AddressField ⌝ }
+{
     let [_first, tail @ ..] = s else {
         return Rule::Other(Cause::AddressField);
     };
-    match address_rule(tail) {
+    match broken_in(tail) {
         Some(rule) => Rule::Address(rule),
         None => Rule::Other(Cause::AddressField),
     }
@@ -95,7 +103,9 @@ fn header_left(s: &[u8], header: usize, place: usize) -> &[u8] {
     from(&tail[0..n], place - header - 1)
 }
 
-fn header_rule(s: &[u8], place: usize) -> Rule {
+fn header_rule(s: &[u8], place: usize) -> Rule
+    ensures { λ r. ⌜ causeOf r ≡ Cause.Header ⌝ }
+{
     let header = header_place(s);
     if place == header {
         return Rule::Header(length_rule(from(s, header)));
@@ -108,7 +118,9 @@ fn header_rule(s: &[u8], place: usize) -> Rule {
 
 impl Rule {
     // The rule behind a fault that was found in a string.
-    pub fn behind(s: &[u8], fault: Fault) -> Rule {
+    pub fn behind(s: &[u8], fault: Fault) -> Rule
+        ensures { λ r. ⌜ causeOf r ≡ fault .cause ⌝ }
+    {
         match fault.cause {
             Cause::Empty => Rule::Empty,
             Cause::Version => match s {

@@ -1,1 +1,3 @@
+pub mod Address
 pub mod Kind
+pub mod Mark

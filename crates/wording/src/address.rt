@@ -1,37 +1,43 @@
+ghost use mathlib.Core.Path.{_≡_};
+ghost use Prim.Native.Nat.{_≤_};
+ghost use lib.ListN.{length};
+ghost use Rattle.wording.specs.Address.{seen, seenIn, addressIn, numberIn, addressName, addressWord, characterOf};
 use addresses::lawful::stands;
 use std::fmt;
 use wire::kind::NumberType;
 
-// An address, by the octets of its field.
+// An address, by the octets of its field; the digits of a number stand two to an octet.
 #[derive(Clone, Copy)]
 pub enum Address<'a> {
     Ipv4(&'a [u8]),
     Ipv6(&'a [u8]),
     Msisdn {
         of: NumberType,
-        count: u8,
         digits: &'a [u8],
     },
 }
 
 impl<'a> Address<'a> {
     // The address in a field, if the field is lawful.
-    pub fn in_field(field: &'a [u8]) -> Option<Address<'a>> {
+    pub fn in_field(field: &'a [u8]) -> Option<Address<'a>>
+        ensures { λ r. ⌜ seenIn r ≡ addressIn (now (field .entry)) ⌝ }
+    {
         if !stands(field) {
             return None;
         }
-        let [head, content @ ..] = field else {
-            return None;
-        };
-        match *head / 32 {
+        let n = field[0] as usize % 32;
+        let content = &field[1..1 + n];
+        match field[0] / 32 {
             0 => Some(Address::Ipv4(content)),
             1 => Some(Address::Ipv6(content)),
-            _ => number(content),
+            _ => Some(number(content)),
         }
     }
 
     // The type as people say it.
-    pub fn kind_name(self) -> &'static str {
+    pub fn kind_name(self) -> &'static str
+        ensures { λ r. ⌜ now r ≡ addressName (seen (self .entry)) ⌝ }
+    {
         match self {
             Address::Ipv4(_) => "IPv4",
             Address::Ipv6(_) => "IPv6",
@@ -40,7 +46,9 @@ impl<'a> Address<'a> {
     }
 
     // The word before the address in a result line.
-    pub fn name(self) -> &'static str {
+    pub fn word(self) -> &'static str
+        ensures { λ r. ⌜ now r ≡ addressWord (seen (self .entry)) ⌝ }
+    {
         match self {
             Address::Ipv4(_) => "ipv4",
             Address::Ipv6(_) => "ipv6",
@@ -49,24 +57,28 @@ impl<'a> Address<'a> {
     }
 }
 
-fn number<'a>(content: &'a [u8]) -> Option<Address<'a>> {
-    let [count, of, digits @ ..] = content else {
-        return None;
-    };
-    let of = if *of == 0x91 {
-        NumberType::International
-    } else {
-        NumberType::Unknown
-    };
-    Some(Address::Msisdn {
-        of,
-        count: *count,
+// The number in a field's content: digit count, type octet, digits.
+fn number<'a>(content: &'a [u8]) -> Address<'a>
+    requires { ⌜ 2 ≤ length (now content) ⌝ }
+    ensures { λ r. ⌜ seen r ≡ numberIn (now (content .entry)) ⌝ }
+{
+    let digits = &content[2..];
+    if content[1] == 0x91 {
+        return Address::Msisdn {
+            of: NumberType::International,
+            digits,
+        };
+    }
+    Address::Msisdn {
+        of: NumberType::Unknown,
         digits,
-    })
+    }
 }
 
 // The character of a semi-octet; 15 is none.
-pub fn character(semi: u8) -> Option<char> {
+pub fn character(semi: u8) -> Option<char>
+    ensures { λ r. ⌜ r ≡ characterOf semi ⌝ }
+{
     match semi {
         0..=9 => Some((b'0' + semi) as char),
         10 => Some('*'),

@@ -1,3 +1,5 @@
+ghost use mathlib.Core.Path.{_≡_};
+ghost use Rattle.wording.specs.Mark.{markAt};
 use std::fmt;
 
 // The octets of a string in hex, sixteen a row, with a mark below one place.
@@ -16,7 +18,9 @@ pub struct Mark {
 
 impl Mark {
     // The mark of a place. One past the end stands behind the last octet, also behind a full row.
-    pub fn at(place: usize, len: usize) -> Mark {
+    pub fn at(place: usize, len: usize) -> Mark
+        ensures { λ r. ⌜ r ≡ markAt place len ⌝ }
+    {
         if place > 0 && place == len && place % 16 == 0 {
             return Mark {
                 row: place / 16 - 1,

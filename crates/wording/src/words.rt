@@ -57,7 +57,7 @@ impl fmt::Display for AddressWords<'_> as AddressWordsDisplay {
         let Some(address) = Address::in_field(self.0.octets) else {
             return Ok(());
         };
-        let name = address.name();
+        let name = address.word();
         write!(f, "{name}:{address}")
     }
 }
