@@ -65,7 +65,7 @@ pub const HELP: &str = "kurbelna COMMAND
 kurbelna strings
   Reads strings from standard input, one a line in hex, and tells the PDU that each one holds, or its fault.
   Capital and small digits, spaces between octets; - is the empty string; lines that begin with # are passed over.
-  Example: echo 04040A0000010605 0423F1C0006F6B | kurbelna strings
+  Example: echo 04 04 0A 00 00 01 06 05 04 23 F1 C0 00 6F 6B | kurbelna strings
 
 kurbelna help
   Writes this text.

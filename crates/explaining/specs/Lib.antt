@@ -1,3 +1,5 @@
 pub mod AddressRules
 pub mod HeaderRules
+pub mod Places
 pub mod Rules
+pub mod Steps

@@ -7,6 +7,7 @@ use crate::header_rule::HeaderRule;
 use crate::header_rule::HeaderRuleDisplay;
 use crate::header_rule::element_rule;
 use crate::header_rule::length_rule;
+use crate::octet::header_place;
 use std::fmt;
 use terms::cause::Cause;
 use terms::cause::CauseDisplay;
@@ -28,17 +29,6 @@ pub enum Rule {
     Address(AddressRule),
     Header(HeaderRule),
     Other(Cause),
-}
-
-// The place of the header's length octet in Data or Data_Long, whose address field is lawful.
-pub(crate) fn header_place(s: &[u8]) -> usize {
-    match s {
-        [first, head, ..] => match kind_of(*first) {
-            Some(Kind::DataLong) => 2 + *head as usize % 32,
-            _ => 1,
-        },
-        _ => 1,
-    }
 }
 
 fn kind_rule(s: &[u8], place: usize) -> Rule
@@ -84,7 +74,7 @@ fn field_rule(s: &[u8]) -> Rule
 }
 
 // The octets from a place on; none where the place is beyond them.
-pub(crate) fn from(s: &[u8], place: usize) -> &[u8] {
+fn from(s: &[u8], place: usize) -> &[u8] {
     if place > s.len() {
         return &s[s.len()..];
     }

@@ -1,7 +1,14 @@
-use crate::element::Element;
-use crate::element::elements;
-use crate::rule::from;
-use crate::rule::header_place;
+ghost use mathlib.Core.Path.{_≡_};
+ghost use mathlib.Core.List.{_++_};
+ghost use Prim.Native.Nat.{_+_, _<_, _^_};
+ghost use lib.ListN.{length};
+ghost use Rattle.std.specs.Of.Vec.{vec-items};
+ghost use Rattle.std.specs.Vec.{made};
+ghost use Rattle.wire.specs.Header.{elementsIn};
+ghost use Rattle.wire.specs.Pdu.{carried, seenPdu, seen};
+ghost use Rattle.explaining.specs.Steps.{seenSteps, before, headerSteps, bodySteps, pduSteps, fieldSteps, untilFault, inHeader, headerFaultSteps, faultSteps, stepsOf};
+use crate::octet::header_place;
+use crate::octet::octet_at;
 use std::alloc::AllocError;
 use std::alloc::Global;
 use std::fmt;
@@ -21,47 +28,76 @@ use wording::kind::pdu_name;
 pub enum Step<'a> {
     First(u8),
     Field(&'a [u8]),
-    HeaderLength { place: usize, length: u8 },
-    Element(Element<'a>),
-    User { place: usize, count: usize },
+    HeaderLength {
+        place: usize,
+        length: u8,
+    },
+    Element {
+        place: usize,
+        kind: u8,
+        octets: &'a [u8],
+    },
+    User {
+        place: usize,
+        count: usize,
+    },
     ErrorTold(ErrorCode),
     Released(ReleaseCode),
 }
 
-// What is found at a header's place: its length octet, and its elements that begin before `until`.
-fn header_steps<'a>(
+// The elements of a header whose first stands at `start`, as far as they lie within it and begin before `until`.
+fn element_steps<'a>(
     all: &mut Vec<Step<'a>>,
-    heap: Global,
-    s: &'a [u8],
-    header: usize,
+    header: &'a [u8],
+    start: usize,
     until: usize,
-) -> Result<(), AllocError> {
-    let [len, tail @ ..] = from(s, header) else {
-        return Ok(());
-    };
-    let n = *len as usize;
-    if n > tail.len() {
-        return Ok(());
-    }
-    all.push(Step::HeaderLength {
-        place: header,
-        length: *len,
-    })?;
-    for e in elements(heap, &tail[0..n], header.saturating_add(1))? {
-        if e.place < until {
-            all.push(Step::Element(e))?;
+) -> Result<(), AllocError>
+    requires { ⌜ start + length (now header) < 2 ^ 64 ⌝ }
+    ensures { λ r. ⌜ made r (λ _. seenSteps (vec-items (now (all .exit))) ≡ seenSteps (vec-items (now (all .entry))) ++ before until (elementsIn 0 start (now (header .entry)))) ⌝ }
+{
+    let mut rest = header;
+    let mut place = start;
+    while let [kind, len, tail @ ..] = rest {
+        let n = *len as usize;
+        if n > tail.len() || place >= until {
+            return Ok(());
         }
+        all.push(Step::Element {
+            place,
+            kind: *kind,
+            octets: &tail[0..n],
+        })?;
+        rest = &tail[n..];
+        place += 2 + n;
     }
     Ok(())
 }
 
-fn body_steps<'a>(
+// A header at a place: its length octet and its elements that begin before `until`; nothing where it overruns the string.
+fn header_steps<'a>(
     all: &mut Vec<Step<'a>>,
-    heap: Global,
     s: &'a [u8],
-    body: Body<'a>,
-) -> Result<(), AllocError> {
-    header_steps(all, heap, s, body.header, usize::MAX)?;
+    at: usize,
+    until: usize,
+) -> Result<(), AllocError>
+    ensures { λ r. ⌜ made r (λ _. seenSteps (vec-items (now (all .exit))) ≡ seenSteps (vec-items (now (all .entry))) ++ headerSteps at until (now (s .entry))) ⌝ }
+{
+    if at >= s.len() {
+        return Ok(());
+    }
+    let length = s[at];
+    let n = length as usize;
+    if n > s.len() - (at + 1) {
+        return Ok(());
+    }
+    all.push(Step::HeaderLength { place: at, length })?;
+    element_steps(all, &s[at + 1..at + 1 + n], at + 1, until)
+}
+
+fn body_steps<'a>(all: &mut Vec<Step<'a>>, s: &'a [u8], body: Body<'a>) -> Result<(), AllocError>
+    ensures { λ r. ⌜ made r (λ _. seenSteps (vec-items (now (all .exit))) ≡ seenSteps (vec-items (now (all .entry))) ++ bodySteps (now (s .entry)) (carried (body .entry))) ⌝ }
+{
+    header_steps(all, s, body.header, s.len())?;
     all.push(Step::User {
         place: body.user.place,
         count: body.user.octets.len(),
@@ -69,17 +105,14 @@ fn body_steps<'a>(
     Ok(())
 }
 
-fn pdu_steps<'a>(
-    all: &mut Vec<Step<'a>>,
-    heap: Global,
-    s: &'a [u8],
-    pdu: Pdu<'a>,
-) -> Result<(), AllocError> {
+fn pdu_steps<'a>(all: &mut Vec<Step<'a>>, s: &'a [u8], pdu: Pdu<'a>) -> Result<(), AllocError>
+    ensures { λ r. ⌜ made r (λ _. seenSteps (vec-items (now (all .exit))) ≡ seenSteps (vec-items (now (all .entry))) ++ pduSteps (now (s .entry)) (seenPdu (pdu .entry))) ⌝ }
+{
     match pdu {
-        Pdu::Data { body, .. } => body_steps(all, heap, s, body),
+        Pdu::Data { body, .. } => body_steps(all, s, body),
         Pdu::DataLong { address, body, .. } => {
             all.push(Step::Field(address.octets))?;
-            body_steps(all, heap, s, body)
+            body_steps(all, s, body)
         }
         Pdu::Ready => Ok(()),
         Pdu::Error(code) => {
@@ -93,19 +126,58 @@ fn pdu_steps<'a>(
     }
 }
 
-// A fault in the header: the address field was read, and the elements before the fault's place; all where the ports are lacking.
-fn fault_steps<'a>(
-    all: &mut Vec<Step<'a>>,
-    heap: Global,
-    s: &'a [u8],
-    place: usize,
-) -> Result<(), AllocError> {
-    let header = header_place(s);
-    if header > 1 && header <= s.len() {
-        all.push(Step::Field(&s[1..header]))?;
+// The address field before a header at a place, where there is one.
+fn field_steps<'a>(all: &mut Vec<Step<'a>>, s: &'a [u8], at: usize) -> Result<(), AllocError>
+    ensures { λ r. ⌜ made r (λ _. seenSteps (vec-items (now (all .exit))) ≡ seenSteps (vec-items (now (all .entry))) ++ fieldSteps at (now (s .entry))) ⌝ }
+{
+    if at > 1 && at <= s.len() {
+        all.push(Step::Field(&s[1..at]))?;
     }
-    let until = if place == header { usize::MAX } else { place };
-    header_steps(all, heap, s, header, until)
+    Ok(())
+}
+
+fn until_fault(s: &[u8], at: usize, place: usize) -> usize
+    ensures { λ r. ⌜ r ≡ untilFault at place (now (s .entry)) ⌝ }
+{
+    if place == at {
+        return s.len();
+    }
+    place
+}
+
+fn is_header(cause: Cause) -> bool
+    ensures { λ r. ⌜ r ≡ inHeader cause ⌝ }
+{
+    match cause {
+        Cause::Header => true,
+        _ => false,
+    }
+}
+
+// What was read of a string whose header, which begins at `at`, has a fault at a place.
+fn header_fault_steps<'a>(
+    all: &mut Vec<Step<'a>>,
+    s: &'a [u8],
+    at: usize,
+    place: usize,
+) -> Result<(), AllocError>
+    ensures { λ r. ⌜ made r (λ _. seenSteps (vec-items (now (all .exit))) ≡ seenSteps (vec-items (now (all .entry))) ++ headerFaultSteps at place (now (s .entry))) ⌝ }
+{
+    field_steps(all, s, at)?;
+    header_steps(all, s, at, until_fault(s, at, place))
+}
+
+fn fault_steps<'a>(all: &mut Vec<Step<'a>>, s: &'a [u8], fault: Fault) -> Result<(), AllocError>
+    ensures { λ r. ⌜ made r (λ _. seenSteps (vec-items (now (all .exit))) ≡ seenSteps (vec-items (now (all .entry))) ++ faultSteps (now (s .entry)) fault) ⌝ }
+{
+    if fault.place == 0 {
+        return Ok(());
+    }
+    all.push(Step::First(octet_at(s, 0)))?;
+    if is_header(fault.cause) {
+        return header_fault_steps(all, s, header_place(s), fault.place);
+    }
+    Ok(())
 }
 
 // The steps of reading a string, as far as they were taken.
@@ -113,24 +185,16 @@ pub fn steps<'a>(
     heap: Global,
     s: &'a [u8],
     read: Result<Pdu<'a>, Fault>,
-) -> Result<Vec<Step<'a>>, AllocError> {
+) -> Result<Vec<Step<'a>>, AllocError>
+    ensures { λ r. ⌜ made r (λ v. seenSteps (vec-items v) ≡ stepsOf (now (s .entry)) (seen (read .entry))) ⌝ }
+{
     let mut all = Vec::new(heap);
-    let [first, ..] = s else {
-        return Ok(all);
-    };
     match read {
         Ok(pdu) => {
-            all.push(Step::First(*first))?;
-            pdu_steps(&mut all, heap, s, pdu)?;
+            all.push(Step::First(octet_at(s, 0)))?;
+            pdu_steps(&mut all, s, pdu)?;
         }
-        Err(fault) => {
-            if fault.place > 0 {
-                all.push(Step::First(*first))?;
-            }
-            if let Cause::Header = fault.cause {
-                fault_steps(&mut all, heap, s, fault.place)?;
-            }
-        }
+        Err(fault) => fault_steps(&mut all, s, fault)?,
     }
     Ok(all)
 }
@@ -165,12 +229,15 @@ fn show_field<W: fmt::Write>(field: &[u8], f: &mut fmt::Formatter<W>) -> fmt::Re
     )
 }
 
-fn show_element<W: fmt::Write>(e: &Element<'_>, f: &mut fmt::Formatter<W>) -> fmt::Result {
-    let place = e.place;
-    let kind = e.kind;
-    let length = e.octets.len();
+fn show_element<W: fmt::Write>(
+    place: usize,
+    kind: u8,
+    octets: &[u8],
+    f: &mut fmt::Formatter<W>,
+) -> fmt::Result {
+    let length = octets.len();
     write!(f, "at {place}: element {kind:02X}, length {length}: ")?;
-    match (kind, e.octets) {
+    match (kind, octets) {
         (0x05, [a, b, c, d]) => {
             let to = *a as u16 * 256 + *b as u16;
             let from = *c as u16 * 256 + *d as u16;
@@ -210,7 +277,11 @@ pub impl fmt::Display for Step<'_> as StepDisplay {
             Step::First(first) => show_first(*first, f),
             Step::Field(field) => show_field(field, f),
             Step::HeaderLength { place, length } => write!(f, "at {place}: header length {length}"),
-            Step::Element(e) => show_element(e, f),
+            Step::Element {
+                place,
+                kind,
+                octets,
+            } => show_element(*place, *kind, octets, f),
             Step::User { place, count } => write!(f, "at {place}: user octets: {count}"),
             Step::ErrorTold(code) => {
                 let n = code.number();

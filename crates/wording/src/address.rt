@@ -11,10 +11,7 @@ use wire::kind::NumberType;
 pub enum Address<'a> {
     Ipv4(&'a [u8]),
     Ipv6(&'a [u8]),
-    Msisdn {
-        of: NumberType,
-        digits: &'a [u8],
-    },
+    Msisdn { of: NumberType, digits: &'a [u8] },
 }
 
 impl<'a> Address<'a> {
