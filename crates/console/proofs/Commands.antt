@@ -2,21 +2,23 @@
 use mathlib.Core.Path.{_≡_, refl, sym, ap, _∙_}
 use mathlib.Core.Bool.{Bool, true, false, cond}
 use mathlib.Core.List.{List, [], _∷_, map}
-use Prim.Native.Nat.{ℕ, _≤_, _<_}
+use Prim.Native.Nat.{ℕ, _≤_}
 use native.Mathlib.Omega.{arith}
 use lib.Chars.{codes}
-use lib.ListN.{length, getD}
+use lib.ListN.{length, getD, length-map}
 use Rattle.std.specs.declared.option.Option.{Option}
 use Rattle.std.specs.declared.option.Option.the-variants.{None, Some}
-use Rattle.std.specs.declared.result.Result.the-variants.{Ok, Err}
+use Rattle.std.specs.declared.result.Result.{Result}
+use Rattle.std.specs.declared.result.Result.the-variants.{Err}
 use Rattle.std.specs.declared.string.String.{String}
 use Rattle.std.specs.Finite.{same-text}
 use Rattle.std.specs.Lexical.{bytes-decides}
 use Rattle.std.specs.Of.String.{string-bytes}
 use Rattle.console.specs.declared.command.Command.{Command}
 use Rattle.console.specs.declared.command.Command.the-variants.{Strings, Help}
-use Rattle.console.specs.declared.command.Misuse.the-variants.{NoCommand, NoSuchCommand, WordsBehind}
-use Rattle.console.specs.Command.{commandNamed, alone, commandAsked}
+use Rattle.console.specs.declared.command.Misuse.{Misuse}
+use Rattle.console.specs.declared.command.Misuse.the-variants.{NoCommand}
+use Rattle.console.specs.Command.{commandNamed, commandAlone, commandAsked}
 
 not-so : {P : Type 0} (b : Bool) → (b ≡ true → P) → (P → ⊥) → b ≡ false
 not-so true h n = absurd (n (h refl))
@@ -33,16 +35,7 @@ module _ {Z : Type 0} where
   no-words [] e = refl
   no-words (w ∷ ws) e = absurd (omega arith)
 
-  pub no-command : (ws : List (String Z)) (w : String Z) → 1 ≤ length ws → w ≡ getD ws 0 w → None ≡ commandNamed (string-bytes w) → Err NoSuchCommand ≡ commandAsked (map string-bytes ws)
-  no-command [] w h e n = absurd (omega arith)
-  no-command (x ∷ ws) w h e n = ap (λ v. alone (map string-bytes ws) v) (n ∙ ap (λ v. commandNamed (string-bytes v)) e)
-
-  pub words-behind : (ws : List (String Z)) (w : String Z) (command : Command) → 1 < length ws → w ≡ getD ws 0 w → Some command ≡ commandNamed (string-bytes w) → Err WordsBehind ≡ commandAsked (map string-bytes ws)
-  words-behind [] w command h e n = absurd (omega arith)
-  words-behind (x ∷ []) w command h e n = absurd (omega arith)
-  words-behind (x ∷ y ∷ ws) w command h e n = ap (λ v. alone (map string-bytes (y ∷ ws)) v) (n ∙ ap (λ v. commandNamed (string-bytes v)) e)
-
-  pub one-word : (ws : List (String Z)) (w : String Z) (command : Command) → 1 ≤ length ws → length ws ≤ 1 → w ≡ getD ws 0 w → Some command ≡ commandNamed (string-bytes w) → Ok command ≡ commandAsked (map string-bytes ws)
-  one-word [] w command l h e n = absurd (omega arith)
-  one-word (x ∷ []) w command l h e n = ap (λ v. alone [] v) (n ∙ ap (λ v. commandNamed (string-bytes v)) e)
-  one-word (x ∷ y ∷ ws) w command l h e n = absurd (omega arith)
+  pub by-word : (ws : List (String Z)) (w : String Z) (r : Result Command Misuse) → 1 ≤ length ws → w ≡ getD ws 0 w → r ≡ commandAlone (commandNamed (string-bytes w)) (length ws) → r ≡ commandAsked (map string-bytes ws)
+  by-word [] w r h e n = absurd (omega arith)
+  by-word (x ∷ ws) w r h e n =
+      n ∙ ap (λ v. commandAlone (commandNamed (string-bytes v)) (length (x ∷ ws))) e ∙ ap (λ k. commandAlone (commandNamed (string-bytes x)) k) (sym (length-map (x ∷ ws) string-bytes))

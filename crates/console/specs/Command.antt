@@ -3,6 +3,8 @@ use mathlib.Core.Bool.{cond}
 use mathlib.Core.List.{List, [], _∷_}
 use Prim.Native.Nat.{ℕ}
 use lib.Chars.{codes}
+use lib.Dec.{leb}
+use lib.ListN.{length}
 use Rattle.std.specs.declared.option.Option.{Option}
 use Rattle.std.specs.declared.option.Option.the-variants.{None, Some}
 use Rattle.std.specs.declared.result.Result.{Result}
@@ -16,12 +18,11 @@ use Rattle.console.specs.declared.command.Misuse.the-variants.{NoCommand, NoSu
 abbrev pub commandNamed : List ℕ → Option Command
 commandNamed name = cond (same-text name (codes "strings")) (Some Strings) (cond (same-text name (codes "help")) (Some Help) None)
 
-abbrev pub alone : List (List ℕ) → Option Command → Result Command Misuse
-alone more None = Err NoSuchCommand
-alone [] (Some command) = Ok command
-alone (word ∷ more) (Some command) = Err WordsBehind
+-- a command that is named by the only one of the words
+abbrev pub commandAlone : Option Command → (words : ℕ) → Result Command Misuse
+commandAlone None words = Err NoSuchCommand
+commandAlone (Some command) words = cond (leb words 1) (Ok command) (Err WordsBehind)
 
--- one word, the name of a command
 abbrev pub commandAsked : List (List ℕ) → Result Command Misuse
 commandAsked [] = Err NoCommand
-commandAsked (word ∷ more) = alone more (commandNamed word)
+commandAsked (word ∷ more) = commandAlone (commandNamed word) (length (word ∷ more))

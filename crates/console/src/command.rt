@@ -1,7 +1,7 @@
 ghost use mathlib.Core.Path.{_≡_};
 ghost use mathlib.Core.List.{map};
 ghost use Rattle.std.specs.Of.String.{string-bytes};
-ghost use Rattle.console.specs.Command.{commandNamed, commandAsked};
+ghost use Rattle.console.specs.Command.{commandNamed, commandAlone, commandAsked};
 use std::fmt;
 
 // What the program is asked to do.
@@ -38,14 +38,21 @@ impl Command {
         if words.is_empty() {
             return Err(Misuse::NoCommand);
         }
-        let Some(command) = Command::named(words[0].as_str()) else {
-            return Err(Misuse::NoSuchCommand);
-        };
-        if words.len() > 1 {
-            return Err(Misuse::WordsBehind);
-        }
-        Ok(command)
+        alone(Command::named(words[0].as_str()), words.len())
     }
+}
+
+// A command stands alone: its name is the only one of the words.
+fn alone(command: Option<Command>, words: usize) -> Result<Command, Misuse>
+    ensures { λ r. ⌜ r ≡ commandAlone command words ⌝ }
+{
+    let Some(command) = command else {
+        return Err(Misuse::NoSuchCommand);
+    };
+    if words > 1 {
+        return Err(Misuse::WordsBehind);
+    }
+    Ok(command)
 }
 
 pub impl fmt::Display for Misuse as MisuseDisplay {

@@ -28,7 +28,7 @@ fn value(c: u8) -> u8
 }
 
 // The octets of hex digits, two to an octet.
-pub fn octets(heap: Global, digits: &[u8]) -> Result<Vec<u8>, AllocError>
+pub(crate) fn octets(heap: Global, digits: &[u8]) -> Result<Vec<u8>, AllocError>
     ensures { λ r. ⌜ made r (λ v. vec-items v ≡ paired (now (digits .entry))) ⌝ }
 {
     let mut all = Vec::new(heap);

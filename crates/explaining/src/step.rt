@@ -191,7 +191,8 @@ pub fn steps<'a>(
     let mut all = Vec::new(heap);
     match read {
         Ok(pdu) => {
-            all.push(Step::First(octet_at(s, 0)))?;
+            let first = Step::First(octet_at(s, 0));
+            all.push(first)?;
             pdu_steps(&mut all, s, pdu)?;
         }
         Err(fault) => fault_steps(&mut all, s, fault)?,
