@@ -1,3 +1,0 @@
-pub mod Agreeing
-pub mod Asked
-pub mod Going

@@ -1,5 +1,0 @@
-pub mod AddressRules
-pub mod HeaderRules
-pub mod Places
-pub mod Rules
-pub mod Steps

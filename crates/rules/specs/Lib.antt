@@ -1,0 +1,4 @@
+pub mod AddressRules
+pub mod HeaderRules
+pub mod Places
+pub mod Rules

@@ -1,0 +1,2 @@
+// How a string was read, step by step.
+pub mod step;
