@@ -15,7 +15,7 @@ use Rattle.std.specs.Finite.{same-text}
 use Rattle.std.specs.Lexical.{bytes-decides}
 use Rattle.std.specs.Of.String.{string-bytes}
 use Rattle.console.specs.declared.command.Command.{Command}
-use Rattle.console.specs.declared.command.Command.the-variants.{Strings, Help}
+use Rattle.console.specs.declared.command.Command.the-variants.{Strings, Log, Help}
 use Rattle.console.specs.declared.command.Misuse.{Misuse}
 use Rattle.console.specs.declared.command.Misuse.the-variants.{NoCommand}
 use Rattle.console.specs.Command.{commandNamed, commandAlone, commandAsked}
@@ -24,11 +24,13 @@ not-so : {P : Type 0} (b : Bool) → (b ≡ true → P) → (P → ⊥) → b �
 not-so true h n = absurd (n (h refl))
 not-so false h n = refl
 
-pub no-name : (name : List ℕ) → (name ≡ codes "strings" → ⊥) → (name ≡ codes "help" → ⊥) → None ≡ commandNamed name
-no-name name s h =
+pub no-name : (name : List ℕ) → (name ≡ codes "strings" → ⊥) → (name ≡ codes "log" → ⊥) → (name ≡ codes "help" → ⊥) → None ≡ commandNamed name
+no-name name s l h =
     let p = not-so (same-text name (codes "strings")) (bytes-decides name (codes "strings") .0) s in
+    let o = not-so (same-text name (codes "log")) (bytes-decides name (codes "log") .0) l in
     let q = not-so (same-text name (codes "help")) (bytes-decides name (codes "help") .0) h in
-    sym (ap (λ v. cond v (Some Strings) (cond (same-text name (codes "help")) (Some Help) None)) p ∙ ap (λ v. cond v (Some Help) None) q)
+    sym (ap (λ v. cond v (Some Strings) (cond (same-text name (codes "log")) (Some Log) (cond (same-text name (codes "help")) (Some Help) None))) p
+    ∙ ap (λ v. cond v (Some Log) (cond (same-text name (codes "help")) (Some Help) None)) o ∙ ap (λ v. cond v (Some Help) None) q)
 
 module _ {Z : Type 0} where
   pub no-words : (ws : List (String Z)) → length ws ≡ 0 → Err NoCommand ≡ commandAsked (map string-bytes ws)

@@ -8,6 +8,7 @@ use std::fmt;
 #[derive(Clone, Copy, PartialEq, Eq, Debug)]
 pub enum Command {
     Strings,
+    Log,
     Help,
 }
 
@@ -17,6 +18,7 @@ pub enum Misuse {
     NoCommand,
     NoSuchCommand,
     WordsBehind,
+    LogWords,
 }
 
 impl Command {
@@ -26,6 +28,7 @@ impl Command {
     {
         match name {
             "strings" => Some(Command::Strings),
+            "log" => Some(Command::Log),
             "help" => Some(Command::Help),
             _ => None,
         }
@@ -42,17 +45,20 @@ impl Command {
     }
 }
 
-// A command stands alone: its name is the only one of the words.
+// A command stands alone: its name is the only one of the words. A log takes words of its own.
 fn alone(command: Option<Command>, words: usize) -> Result<Command, Misuse>
     ensures { λ r. ⌜ r ≡ commandAlone command words ⌝ }
 {
-    let Some(command) = command else {
-        return Err(Misuse::NoSuchCommand);
-    };
-    if words > 1 {
-        return Err(Misuse::WordsBehind);
+    match command {
+        None => Err(Misuse::NoSuchCommand),
+        Some(Command::Log) => Ok(Command::Log),
+        Some(command) => {
+            if words > 1 {
+                return Err(Misuse::WordsBehind);
+            }
+            Ok(command)
+        }
     }
-    Ok(command)
 }
 
 pub impl fmt::Display for Misuse as MisuseDisplay {
@@ -61,6 +67,8 @@ pub impl fmt::Display for Misuse as MisuseDisplay {
             Misuse::NoCommand => "no command given",
             Misuse::NoSuchCommand => "no such command",
             Misuse::WordsBehind => "the command takes no words behind it",
+            Misuse::LogWords =>
+                "behind log stand direct or gateway, highest=127 or highest=255, latest=N, in this order",
         };
         write!(f, "{words}; `kurbelna help` tells the commands")
     }
@@ -73,6 +81,12 @@ kurbelna strings
   Reads strings from standard input, one a line in hex, and tells the PDU that each one holds, or its fault.
   Capital and small digits, spaces between octets; - is the empty string; lines that begin with # are passed over.
   Example: echo 04 04 0A 00 00 01 06 05 04 23 F1 C0 00 6F 6B | kurbelna strings
+
+kurbelna log [direct|gateway] [highest=N] [latest=N]
+  Reads a gateway's log from standard input, one entry a line, and tells what each string is. Entries: mobile TEXT, network TEXT,
+  mobile close, network close, lose. TEXT is the gateway's line or, at direct, the raw USSD string in hex.
+  Without words: gateway, highest octet 255, latest dialogue number 0.
+  Example: printf 'mobile 2A2331322A0623\\nnetwork 06\\nlose\\n' | kurbelna log direct
 
 kurbelna help
   Writes this text.
@@ -95,5 +109,8 @@ Lines that begin in column one are results, one for each string. Lines that are 
       type or code, or more to send in RR, Error or RD, 43 version, 44 address field, 45 header, 46 too few or too
       many octets in RR, Error or RD.
   refused input line 7: not hex
-      The line holds no string: not hex, odd count of hex digits, or above 160 octets.
+      The line holds no string: not hex, odd count of hex digits, or above 160 octets; in a log, no such entry.
+  dialogue=1 code=12 rr
+      In a log: the number and the service code (- for none) as they stand after the entry, and what the other side took; closed; lost;
+      or refused and the number of the refusal. A garbled string is fault cause=40 place=0 layer=bearer.
 ";

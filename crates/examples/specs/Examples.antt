@@ -1,10 +1,10 @@
 -- Worked examples as one fact. Octets stand in hexadecimal.
 use mathlib.Core.Path.{_≡_}
 use mathlib.Core.Bool.{true, false}
-use mathlib.Core.List.{List, [], _∷_}
+use mathlib.Core.List.{List, [], _∷_, _++_}
 use Prim.Native.Nat.{ℕ}
 use lib.Chars.{codes}
-use Rattle.std.specs.declared.option.Option.the-variants.{None}
+use Rattle.std.specs.declared.option.Option.the-variants.{None, Some}
 use Rattle.std.specs.declared.result.Result.{Result}
 use Rattle.std.specs.declared.result.Result.the-variants.{Ok, Err}
 use Rattle.terms.specs.declared.fault.Fault.{Fault}
@@ -16,6 +16,9 @@ use Rattle.wire.specs.Number.{lawfulText, digitsOf, numberField}
 use Rattle.wire.specs.Pdu.{Read, reading, long-of}
 use Rattle.wire.specs.Written as sent
 use Rattle.addresses.specs.Field.{ipv4Field}
+use Rattle.bearer.specs.declared.side.Side.the-variants.{Mobile, Network}
+use Rattle.bearer.specs.Meaning.{open-with, under-way, octets}
+use Rattle.lines.specs.State.{standsAs, opens}
 
 abbrev faulty : ℕ → ℕ → Result Read Fault
 faulty n at = Err (faultOf n at layer.Pdu)
@@ -34,6 +37,10 @@ okay = codes "ok"
 abbrev number : List ℕ
 number = 0x45 ∷ 0x05 ∷ 0x91 ∷ 0x64 ∷ 0x21 ∷ 0xF3 ∷ []
 
+-- the Data_Long as it stands when a mobile opens with code 138
+abbrev opening : List ℕ
+opening = 0x2A ∷ 0x23 ∷ 0x31 ∷ 0x33 ∷ 0x38 ∷ 0x2A ∷ (toTen ++ (0x23 ∷ []))
+
 pub record Examples : Type 0 where
   pub long-read :
       reading toTen
@@ -44,3 +51,5 @@ pub record Examples : Type 0 where
   pub number-fine : addressFine number ≡ true
   pub empty : reading [] ≡ faulty 41 0
   pub version : reading (0x20 ∷ []) ≡ faulty 43 0
+  pub opening-stands : standsAs Mobile (codes "138") toTen ≡ opening
+  pub opening-read : opens 255 (Some opening) ≡ open-with (codes "138") (under-way Network (octets toTen))

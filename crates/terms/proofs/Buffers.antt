@@ -52,3 +52,10 @@ headed-is h k xs ys old e f g =
     ∙ ap (λ v. take (1 + length xs) (v ++ (xs ++ behind))) g
     ∙ ap (λ n. take n (h ∷ (xs ++ behind))) (one-add (length xs))
     ∙ ap (λ v. h ∷ v) (take-append-seam xs behind)
+
+-- octets copied to the front of a buffer
+pub front-is : (k : ℕ) (xs ys old : List ℕ) → k ≡ length xs → ys ≡ xs → take (length xs) (putMid 0 k old ys) ≡ xs
+front-is k xs ys old e f = ap (take (length xs)) (put-is 0 k old ys xs e f) ∙ take-append-seam xs (drop (0 + length xs) old)
+
+pub front-length : (k : ℕ) (xs ys old : List ℕ) → k ≡ length xs → ys ≡ xs → length xs ≤ length old → length (putMid 0 k old ys) ≡ length old
+front-length k xs ys old e f h = ap length (put-is 0 k old ys xs e f) ∙ laid-length 0 xs old (omega arith)

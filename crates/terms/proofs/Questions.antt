@@ -7,7 +7,7 @@ use Rattle.std.specs.declared.option.Option.{Option}
 use Rattle.std.specs.declared.option.Option.the-variants.{None, Some}
 use Rattle.std.specs.declared.result.Result.{Result}
 use Rattle.std.specs.declared.result.Result.the-variants.{Ok, Err}
-use Rattle.terms.specs.Question.{Question, firstNo, toldOf, told}
+use Rattle.terms.specs.Question.{Question, firstNo, toldOf, told, unlessOf, unless}
 use Rattle.terms.specs.Laws.{AllHold, FirstBroken, InOrder}
 
 err-step : {A B E : Type 0} (w : Bool) (g f : E) (m n : Option E) (a : A) (b : B) → (toldOf m a ≡ Err f → toldOf n b ≡ Err f) → toldOf (cond w m (Some g)) a ≡ Err f → toldOf (cond w n (Some g)) b ≡ Err f
@@ -96,3 +96,14 @@ told-all qs a h = ap (λ o. toldOf o a) (all-none qs h)
 pub hold-split : {E : Type 0} (ps qs : List (Question E)) → AllHold (ps ++ qs) → AllHold ps × AllHold qs
 hold-split [] qs h = (tt, h)
 hold-split (p ∷ ps) qs h = let r = hold-split ps qs (h .1) in ((h .0, r .0), r .1)
+
+unless-err : {A B E : Type 0} (o : Option E) (f : E) (b : B) (new old : A) → Err f ≡ toldOf o b → old ≡ unlessOf o new old
+unless-err None f b new old e = let z : _≡_ {A = ℕ} 0 1 = cc in absurd (omega arith)
+unless-err (Some g) f b new old e = refl
+
+-- a refused call leaves the old, an accepted one the new
+pub refused-unless : {A B E : Type 0} (qs : List (Question E)) (f : E) (b : B) (new old : A) → Err f ≡ told qs b → old ≡ unless qs new old
+refused-unless qs f b new old e = unless-err (firstNo qs) f b new old e
+
+pub done-unless : {A B E : Type 0} (qs : List (Question E)) (x b : B) (new old : A) → Ok x ≡ told qs b → new ≡ unless qs new old
+done-unless qs x b new old e = sym (ap (λ o. unlessOf o new old) (of-none (firstNo qs) b x (sym e)))

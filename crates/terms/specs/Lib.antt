@@ -3,3 +3,4 @@ pub mod Cause
 pub mod Laws
 pub mod Question
 pub mod Refusal
+pub mod Stop

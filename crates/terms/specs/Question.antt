@@ -26,6 +26,10 @@ toldOf (Some e) a = Err e
 abbrev pub told : {A E : Type 0} → List (Question E) → A → Result A E
 told qs a = toldOf (firstNo qs) a
 
+-- the first no, else nothing
+abbrev pub asked : {E : Type 0} → List (Question E) → Result (Unit {0}) E
+asked qs = told qs (tt {0})
+
 abbrev pub unlessOf : {A E : Type 0} → Option E → A → A → A
 unlessOf None new old = new
 unlessOf (Some e) new old = old

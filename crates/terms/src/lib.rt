@@ -2,4 +2,6 @@
 pub mod cause;
 pub mod fault;
 pub mod laws;
+pub mod octets;
 pub mod refusal;
+pub mod stop;

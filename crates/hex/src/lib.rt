@@ -1,0 +1,3 @@
+// Octets as capital hexadecimal characters, two an octet.
+pub mod digits;
+pub mod text;

@@ -1,0 +1,4 @@
+pub mod Frame
+pub mod Line
+pub mod State
+pub mod Ussd

@@ -1,0 +1,3 @@
+pub mod Bring
+pub mod Enter
+pub mod Entry
