@@ -68,7 +68,7 @@ pub impl fmt::Display for Misuse as MisuseDisplay {
             Misuse::NoSuchCommand => "no such command",
             Misuse::WordsBehind => "the command takes no words behind it",
             Misuse::LogWords =>
-                "behind log stand direct or gateway, highest=127 or highest=255, latest=N, in this order",
+                "log takes [direct|gateway] [highest=127|255] [latest=N]",
         };
         write!(f, "{words}; `kurbelna help` tells the commands")
     }
