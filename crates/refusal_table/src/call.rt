@@ -6,7 +6,7 @@ use lines::state::Carrier;
 use terms::refusal::Refusal;
 use terms::stop::Stop;
 
-pub fn name(call: u8) -> &'static str {
+pub(crate) fn name(call: u8) -> &'static str {
     match call {
         0 => "mobile open 12",
         1 => "mobile open 1",
@@ -58,7 +58,11 @@ fn other<L: Line>(b: &mut Carrier<L>, call: u8) -> Result<(), Refusal> {
 }
 
 // Makes a call; the number is how many octets were taken.
-pub fn make<L: Line>(b: &mut Carrier<L>, call: u8, place: &mut [u8; 160]) -> Result<usize, Stop> {
+pub(crate) fn make<L: Line>(
+    b: &mut Carrier<L>,
+    call: u8,
+    place: &mut [u8; 160],
+) -> Result<usize, Stop> {
     if call == 11 {
         return b.take(Side::Mobile, place);
     }

@@ -12,7 +12,7 @@ use terms::octets::same;
 
 // All that a bearer tells of itself, and the line.
 #[derive(Drop)]
-pub struct Look {
+pub(crate) struct Look {
     number: u32,
     standing: u8,
     code: Code,
@@ -39,7 +39,7 @@ fn text(t: Option<Text>) -> u64 {
     }
 }
 
-pub fn seen<L: Line>(heap: Global, b: &Carrier<L>) -> Result<Look, AllocError> {
+pub(crate) fn seen<L: Line>(heap: Global, b: &Carrier<L>) -> Result<Look, AllocError> {
     let mut octets = [0xEEu8; 160];
     let text = text(b.under_way(&mut octets));
     Ok(Look {
@@ -53,7 +53,7 @@ pub fn seen<L: Line>(heap: Global, b: &Carrier<L>) -> Result<Look, AllocError> {
 }
 
 impl Look {
-    pub fn is_as(&self, other: &Look) -> bool {
+    pub(crate) fn is_as(&self, other: &Look) -> bool {
         self.number == other.number
             && self.standing == other.standing
             && same(self.code.as_slice(), other.code.as_slice())

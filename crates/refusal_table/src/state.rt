@@ -5,11 +5,11 @@ use lines::line::Line;
 use lines::state::Carrier;
 
 // The number of the latest dialogue with which the bearer of a state is made.
-pub fn latest(state: u8) -> u32 {
+pub(crate) fn latest(state: u8) -> u32 {
     if state == 1 { u32::MAX } else { 7 }
 }
 
-pub fn name(state: u8) -> &'static str {
+pub(crate) fn name(state: u8) -> &'static str {
     match state {
         0 => "closed",
         1 => "closed at the last number",
@@ -23,7 +23,7 @@ pub fn name(state: u8) -> &'static str {
 }
 
 // Brings a new bearer into a state.
-pub fn bring<L: Line>(b: &mut Carrier<L>, state: u8) {
+pub(crate) fn bring<L: Line>(b: &mut Carrier<L>, state: u8) {
     let mut place = [0u8; 160];
     if state == 6 {
         let _ = b.load(Side::Mobile, b"?");

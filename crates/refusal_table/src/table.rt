@@ -8,7 +8,7 @@ use terms::octets::same;
 use terms::stop::Stop;
 
 // One row: a call in a state, what it answers, and whether bearer, line and buffer are as they were.
-pub fn table<L: Line>(
+pub(crate) fn table<L: Line>(
     rt: &LibcRuntime,
     b: &mut Carrier<L>,
     in_state: u8,
