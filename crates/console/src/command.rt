@@ -67,8 +67,7 @@ pub impl fmt::Display for Misuse as MisuseDisplay {
             Misuse::NoCommand => "no command given",
             Misuse::NoSuchCommand => "no such command",
             Misuse::WordsBehind => "the command takes no words behind it",
-            Misuse::LogWords =>
-                "log takes [direct|gateway] [highest=127|255] [latest=N]",
+            Misuse::LogWords => "log takes [direct|gateway] [highest=127|255] [latest=N]",
         };
         write!(f, "{words}; `kurbelna help` tells the commands")
     }
