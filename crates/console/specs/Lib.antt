@@ -1,1 +1,4 @@
+pub mod Command
+pub mod Hex
+pub mod Line
 pub mod Tally

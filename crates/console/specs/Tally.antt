@@ -2,8 +2,8 @@
 use Rattle.std.specs.Prelude.{ℕ, ◌+◌, ◌-◌, ◌^◌, min, Bool, true, false, cond, List, is_ok}
 use Rattle.wire.specs.Pdu.{reading}
 use Rattle.console.specs.declared.strings.Tally.{Tally}
-use Rattle.input.specs.declared.line.Reason.{Reason}
-use Rattle.input.specs.Line.{Meaning, nothing, string, bad}
+use Rattle.console.specs.declared.line.Reason.{Reason}
+use Rattle.console.specs.Line.{Meaning, nothing, string, bad}
 
 abbrev pub none : Tally
 none = record { lines = 0; sound = 0; broken = 0 }

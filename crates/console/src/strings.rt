@@ -1,8 +1,8 @@
 ghost use Rattle.std.specs.Prelude.{◌≡◌, OnOk};
-ghost use Rattle.input.specs.Line.{meaning, without_end};
+ghost use Rattle.console.specs.Line.{meaning, without_end};
 ghost use Rattle.console.specs.Tally.{none, counted_sound, counted_string, counted_line};
 
-use input::line::{Line, Reason, read_line, without_end};
+use crate::line::{Line, Reason, read_line, without_end};
 use rules::rule::Rule;
 use std::alloc::{AllocError, Global};
 use std::fmt;

@@ -1,10 +1,9 @@
-use Rattle.std.specs.Prelude.{ℕ, ◌≤◌, List, Ok, Err, Result}
+use Rattle.std.specs.Prelude.{ℕ, ◌≤◌, List, Ok, Err, Option, Result}
 use Rattle.terms.specs.declared.refusal.Refusal.{Refusal}
 use Rattle.terms.specs.declared.stop.Stop.{Stop}
 use Rattle.terms.specs.declared.stop.Stop.TheVariants.{Refused}
 use Rattle.bearer.specs.Meaning.{Meaning, close_answer, close_after}
-use Rattle.terms.specs.Question.{Question}
-use Rattle.bearer.specs.declared.side.Side.{Side}
+use Rattle.lines.specs.declared.place.Place.{Place}
 use Rattle.dialogue_log.specs.declared.enter.Outcome.{Outcome}
 use Rattle.dialogue_log.specs.declared.enter.Outcome.TheVariants.{Taken, Stopped, Closed, Lost}
 use Rattle.dialogue_log.specs.Entry.{Seen, load, close, lose}
@@ -25,17 +24,17 @@ taken_by (Ok n) = Taken n
 taken_by (Err s) = Stopped s
 
 -- a line is brought in and taken by the other side; a close and a loss are the bearer's own
-abbrev pub entered_answer : (Side → List ℕ → List (Question Refusal)) → (Side → List ℕ → Meaning) → Seen → Meaning → Outcome
-entered_answer asks loaded (load side raw) m = taken_by (brought_answer (asks side raw) side (loaded side raw))
-entered_answer asks loaded (close side) m = closed_by Closed (close_answer m)
-entered_answer asks loaded lose m = closed_by Lost (close_answer m)
+abbrev pub entered_answer : ℕ → (Place → List ℕ → Option (List ℕ)) → Seen → Meaning → Outcome
+entered_answer room read_as (load side raw) m = taken_by (brought_answer room read_as side raw m)
+entered_answer room read_as (close side) m = closed_by Closed (close_answer m)
+entered_answer room read_as lose m = closed_by Lost (close_answer m)
 
-abbrev pub entered_place : (Side → List ℕ → List (Question Refusal)) → (Side → List ℕ → Meaning) → Seen → List ℕ → List ℕ
-entered_place asks loaded (load side raw) place = brought_place (asks side raw) side place (loaded side raw)
-entered_place asks loaded (close side) place = place
-entered_place asks loaded lose place = place
+abbrev pub entered_place : ℕ → (Place → List ℕ → Option (List ℕ)) → Seen → List ℕ → Meaning → List ℕ
+entered_place room read_as (load side raw) place m = brought_place room read_as side raw place m
+entered_place room read_as (close side) place m = place
+entered_place room read_as lose place m = place
 
-abbrev pub entered_after : (Side → List ℕ → List (Question Refusal)) → (Side → List ℕ → Meaning) → Seen → Meaning → Meaning
-entered_after asks loaded (load side raw) m = brought_after (asks side raw) side (loaded side raw) m
-entered_after asks loaded (close side) m = close_after m
-entered_after asks loaded lose m = close_after m
+abbrev pub entered_after : ℕ → (Place → List ℕ → Option (List ℕ)) → Seen → Meaning → Meaning
+entered_after room read_as (load side raw) m = brought_after room read_as side raw m
+entered_after room read_as (close side) m = close_after m
+entered_after room read_as lose m = close_after m

@@ -1,11 +1,13 @@
 ghost use Rattle.std.specs.Prelude.{◌≡◌};
+ghost use Rattle.lines.specs.State.{means_by};
 ghost use Rattle.dialogue_log.specs.Entry.{seen_entry};
 ghost use Rattle.dialogue_log.specs.Enter.{Fits, closed_by, entered_answer, entered_place, entered_after};
 
 use crate::bring::bring;
 use crate::entry::Entry;
 use bearer::Bearer;
-use loading::Loads;
+use lines::line::Line;
+use lines::state::Carrier;
 use terms::refusal::Refusal;
 use terms::stop::Stop;
 
@@ -28,28 +30,18 @@ fn closed(over: Outcome, r: Result<(), Refusal>) -> Outcome
 }
 
 // Plays one entry of a log; the text of a load is the raw line.
-pub fn enter<B: Loads>(b: B, entry: Entry<'_>, place: &mut [u8; 160]) -> (B, Outcome)
-    ensures answer { result.1 ≡ entered_answer (B.Loads.load_asks b) (B.Loads.load_means b) (seen_entry entry.entry) (B.Bearer.meaning b) }
-    ensures within { Fits result.1 }
-    ensures place { place.new ≡ entered_place (B.Loads.load_asks b) (B.Loads.load_means b) (seen_entry entry.entry) place.old }
-    ensures after { B.Bearer.meaning result.0 ≡ entered_after (B.Loads.load_asks b) (B.Loads.load_means b) (seen_entry entry.entry) (B.Bearer.meaning b) }
+pub fn enter<L: Line>(b: &mut Carrier<L>, entry: Entry<'_>, place: &mut [u8; 160]) -> Outcome
+    ensures answer { result ≡ entered_answer L.Line.room L.Line.read_as (seen_entry entry.entry) (means_by L.Line.read_as L.Line.held b.old) }
+    ensures within { Fits result }
+    ensures place { place.new ≡ entered_place L.Line.room L.Line.read_as (seen_entry entry.entry) place.old (means_by L.Line.read_as L.Line.held b.old) }
+    ensures after { means_by L.Line.read_as L.Line.held b.new ≡ entered_after L.Line.room L.Line.read_as (seen_entry entry.entry) (means_by L.Line.read_as L.Line.held b.old) }
 {
-    let mut b = b;
     match entry {
-        Entry::Load { side, text } => {
-            let (b, r) = bring(b, side, text, place);
-            match r {
-                Ok(n) => (b, Outcome::Taken(n)),
-                Err(stop) => (b, Outcome::Stopped(stop)),
-            }
-        }
-        Entry::Close(side) => {
-            let r = b.close(side);
-            (b, closed(Outcome::Closed, r))
-        }
-        Entry::Lose => {
-            let r = b.lose();
-            (b, closed(Outcome::Lost, r))
-        }
+        Entry::Load { side, text } => match bring(b, side, text, place) {
+            Ok(n) => Outcome::Taken(n),
+            Err(stop) => Outcome::Stopped(stop),
+        },
+        Entry::Close(side) => closed(Outcome::Closed, b.close(side)),
+        Entry::Lose => closed(Outcome::Lost, b.lose()),
     }
 }

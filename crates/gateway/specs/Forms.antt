@@ -13,11 +13,10 @@ use Rattle.terms.specs.declared.refusal.Refusal.TheVariants as refusal
 use Rattle.terms.specs.declared.stop.Stop.{Stop}
 use Rattle.terms.specs.Question.{unless_of}
 use Rattle.lines.specs.Line.{over}
-use Rattle.coding.specs.Coding.{Octets, count_in, decoded_by, decoded_in}
-use Rattle.hex_text.specs.Hex.{hex_of, unhex}
+use Rattle.hex_text.specs.Hex.{hex_of, unhex, count_in, decoded_by, decoded_in}
 use Rattle.terms.specs.Buffer.{left_in}
-use Rattle.hex_text.specs.Hexes.{hex_length}
-use Rattle.hex_text.specs.Laws.{hex_back, hex_only}
+use Rattle.hex_text.proofs.Hexes.{hex_length}
+use Rattle.hex_text.proofs.Laws.{Octets, hex_back, hex_only}
 use Rattle.gateway.specs.Form.{framed, middle, shortly, between}
 
 octets_low : (xs : List ℕ) → low 255 xs ≡ true → Octets xs

@@ -1,6 +1,3 @@
-// Octets as capital hexadecimal characters, two an octet: as functions and as a coding.
+// Octets as capital hexadecimal characters, two an octet.
 pub mod digits;
-mod shown;
 pub mod text;
-
-pub use shown::Hex;

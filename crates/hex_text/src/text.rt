@@ -1,7 +1,6 @@
 ghost use Rattle.std.specs.Prelude.{◌≡◌, ◌+◌, ◌*◌, ◌/◌, ◌≤◌, true, ◌++◌, length, drop};
 ghost use Rattle.terms.specs.Buffer.{answer_of, left_in};
-ghost use Rattle.coding.specs.Coding.{decoded_by, decoded_in};
-ghost use Rattle.hex_text.specs.Hex.{hex_of, is_hex, octets_in, unhex};
+ghost use Rattle.hex_text.specs.Hex.{hex_of, is_hex, octets_in, unhex, decoded_by, decoded_in};
 
 use crate::digits::{digit, is_hex, value};
 use terms::cause::Cause;

@@ -1,5 +1,5 @@
 use Rattle.std.proofs.Common.{◌≤◌, length, ◌∙◌, rules}
-use Rattle.hex_text.specs.Hexes.{hex_more}
+use Rattle.hex_text.proofs.Hexes.{hex_more}
 use Rattle.hex_text.proofs.digits.is_hex.Goals as goal
 
 pub loop-rest-preserved : goal.loop-rest-preserved

@@ -1,20 +1,16 @@
 use Rattle.std.proofs.Common.{◌≡◌, true, sym, arith}
-use Rattle.coding.proofs.Decodes.{decode_small, decode_done}
-use Rattle.hex_text.specs.Hex.{is_hex, octets_in, unhex}
-use Rattle.hex_text.specs.Hexes.{octets_length}
-use Rattle.hex_text.specs.Laws.{stands_for}
+use Rattle.hex_text.specs.Hex.{is_hex}
+use Rattle.hex_text.proofs.Decodes.{decode_small, decode_done}
 use Rattle.hex_text.proofs.text.decode.Goals as goal
 
 pub returns-then-text-out : goal.returns-then-text-out
 returns-then-text-out c =
-    let ys = c.args.text.now in
-    let h : is_hex ys ≡ true = sym c.if-not-is-hex.ensures in
-    let p = decode_small (unhex ys) (octets_in ys) c.args.out.now _ (stands_for ys h) (sym (octets_length ys h)) (omega arith) in
+    let h : is_hex c.args.text.now ≡ true = sym c.if-not-is-hex.ensures in
+    let p = decode_small c.args.text.now c.args.out.now h (omega arith) in
     record { answer = p.0; after = p.1 }
 
 pub returns : goal.returns
 returns c =
-    let ys = c.args.text.now in
-    let h : is_hex ys ≡ true = sym c.if-not-is-hex.ensures in
-    let p = decode_done (unhex ys) (octets_in ys) c.args.out.now _ _ (stands_for ys h) (sym (octets_length ys h)) (omega arith) c.put-octets.ensures in
+    let h : is_hex c.args.text.now ≡ true = sym c.if-not-is-hex.ensures in
+    let p = decode_done c.args.text.now c.args.out.now _ h (omega arith) c.put-octets.ensures in
     record { answer = p.0; after = p.1 }

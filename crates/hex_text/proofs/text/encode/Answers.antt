@@ -1,7 +1,7 @@
 use Rattle.std.proofs.Common.{◌≡◌, ◌*◌, ◌<◌, ◌≤◌, ◌++◌, length, drop, sym, ap, ◌∙◌, arith}
 use Rattle.terms.proofs.Buffers.{too_small, room}
 use Rattle.hex_text.specs.Hex.{hex_of}
-use Rattle.hex_text.specs.Hexes.{hex_length}
+use Rattle.hex_text.proofs.Hexes.{hex_length}
 use Rattle.hex_text.proofs.text.encode.Goals as goal
 
 pub returns-then-octets-out : goal.returns-then-octets-out

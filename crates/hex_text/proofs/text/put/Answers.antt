@@ -1,5 +1,5 @@
 use Rattle.std.proofs.Common.{◌+◌, ◌*◌, ◌<◌, ◌≤◌, length, arith}
-use Rattle.hex_text.specs.Hexes.{put_more, put_all}
+use Rattle.hex_text.proofs.Hexes.{put_more, put_all}
 use Rattle.hex_text.proofs.text.put.Goals as goal
 
 pub loop-i-preserved : goal.loop-i-preserved

@@ -1,5 +1,5 @@
 use Rattle.std.proofs.Common.{◌≡◌, ◌+◌, ◌*◌, ◌/◌, ◌<◌, length, arith}
-use Rattle.hex_text.specs.Hexes.{first_digit, second_digit, read_more, read_all, hex_even}
+use Rattle.hex_text.proofs.Hexes.{first_digit, second_digit, read_more, read_all, hex_even}
 use Rattle.hex_text.proofs.text.put_octets.Goals as goal
 
 pub value-requires : goal.value-requires

@@ -1,3 +1,0 @@
-pub mod Coded
-pub mod Piles
-pub mod Strings

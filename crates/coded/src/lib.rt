@@ -1,6 +1,0 @@
-// A bearer with a coding piled on it is a bearer again: strings are encoded on their way down and decoded on their way up.
-mod parts;
-mod pile;
-mod shown;
-
-pub use pile::Coded;

@@ -1,0 +1,86 @@
+-- What a line of input is.
+use Rattle.std.specs.Prelude.{ℕ, ◌-◌, ◌/◌, ◌%◌, Bool, true, false, cond, not, ◌&&◌, ◌||◌, List, [], ◌∷◌, length, take, Ok, Err, vec_items, Result, ◌==◌, nat_le, slice_index}
+use Rattle.terms.specs.Question.{Question, told}
+use Rattle.console.specs.declared.line.Reason.{Reason}
+use Rattle.console.specs.declared.line.Reason.TheVariants.{NotHex, OddCount, TooLong}
+use Rattle.console.specs.declared.line.Line.{Line}
+use Rattle.console.specs.declared.line.Line.TheVariants as line
+use Rattle.console.specs.Hex.{is_digit, paired}
+
+abbrev pub space : ℕ
+space = 0x20
+
+-- the line without its spaces
+abbrev pub unspaced : List ℕ → List ℕ
+unspaced [] = []
+unspaced (c ∷ cs) = cond (c == space) (unspaced cs) (c ∷ unspaced cs)
+
+abbrev pub all : (ℕ → Bool) → List ℕ → Bool
+all p [] = true
+all p (c ∷ cs) = p c && all p cs
+
+abbrev pub join_first : ℕ → List (List ℕ) → List (List ℕ)
+join_first c [] = (c ∷ []) ∷ []
+join_first c (w ∷ ws) = (c ∷ w) ∷ ws
+
+-- the groups that stand between spaces; two spaces side by side have an empty one between them
+abbrev pub groups : List ℕ → List (List ℕ)
+groups [] = [] ∷ []
+groups (c ∷ cs) = cond (c == space) ([] ∷ groups cs) (join_first c (groups cs))
+
+abbrev pub all_empty : List (List ℕ) → Bool
+all_empty [] = true
+all_empty (w ∷ ws) = length w == 0 && all_empty ws
+
+-- no space stands inside an octet: each group has an even count of digits, but for the last one on the line
+abbrev pub unbroken : List (List ℕ) → Bool
+unbroken [] = true
+unbroken (w ∷ ws) = cond (length w % 2 == 0) (unbroken ws) (all_empty ws)
+
+-- hex digits, with spaces before, between and behind octets
+abbrev pub is_hex : List ℕ → Bool
+is_hex cs = all is_digit (unspaced cs) && unbroken (groups cs)
+
+abbrev pub must : Bool → Reason → Question Reason
+must b reason = record { holds = b; otherwise = reason }
+
+-- the longest string is of 160 octets
+abbrev pub questions : List ℕ → List (Question Reason)
+questions cs = must (is_hex cs) NotHex ∷ must (length (unspaced cs) % 2 == 0) OddCount ∷ must (nat_le (length (unspaced cs) / 2) 160) TooLong ∷ []
+
+-- what a line means: nothing, a string, or something that is none
+pub data Meaning : Type 0 where
+  nothing : Meaning
+  string : List ℕ → Meaning
+  bad : Reason → Meaning
+
+abbrev pub meaning_of : Result (List ℕ) Reason → Meaning
+meaning_of (Ok xs) = string xs
+meaning_of (Err reason) = bad reason
+
+abbrev pub is_comment : List ℕ → Bool
+is_comment cs = nat_le 1 (length cs) && slice_index cs 0 == 0x23
+
+-- a line that begins with `#`, or has nothing but spaces
+abbrev pub passed_over : List ℕ → Bool
+passed_over cs = is_comment cs || length (unspaced cs) == 0
+
+-- `-` alone is the empty string
+abbrev pub is_dash : List ℕ → Bool
+is_dash cs = length cs == 1 && slice_index cs 0 == 0x2D
+
+abbrev pub meaning : List ℕ → Meaning
+meaning cs = cond (passed_over cs) nothing (cond (is_dash (unspaced cs)) (string []) (meaning_of (told (questions cs) (paired (unspaced cs)))))
+
+-- a line of the program, as plain data
+abbrev pub seen_line : Line → Meaning
+seen_line line.PassedOver = nothing
+seen_line (line.String v) = string (vec_items v)
+seen_line (line.Refused reason) = bad reason
+
+abbrev pub without_last : ℕ → List ℕ → List ℕ
+without_last end cs = cond (nat_le 1 (length cs) && slice_index cs (length cs - 1) == end) (take (length cs - 1) cs) cs
+
+-- a line ends in LF, or in CR and LF; the last one may end in CR alone or in neither
+abbrev pub without_end : List ℕ → List ℕ
+without_end cs = without_last 0x0D (without_last 0x0A cs)

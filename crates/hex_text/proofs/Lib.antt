@@ -1,0 +1,3 @@
+pub mod Decodes
+pub mod Hexes
+pub mod Laws

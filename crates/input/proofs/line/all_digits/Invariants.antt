@@ -1,7 +1,0 @@
-use Rattle.std.proofs.Common.{◌≡◌, drop}
-use Rattle.input.specs.Hex.{is_digit}
-use Rattle.input.specs.Line.{all}
-use Rattle.input.proofs.line.all_digits.Given as goal
-
-abbrev pub invariant-loop-c : goal.invariant-loop-c
-invariant-loop-c l = all is_digit (drop l.c-index l.digits) ≡ all is_digit l.digits

@@ -1,5 +1,0 @@
-pub mod Command
-pub mod Hex
-pub mod Line
-pub mod Named
-pub mod Pile
