@@ -4,36 +4,27 @@
 # in must-fail/: 'file:', 'old:' and 'new:' lines. Only the compiler runs, from the sources, and nothing is proved here.
 set -u
 root=$(cd "$(dirname "$0")/.." && pwd)
-kit=$(dirname "$(dirname "$(rt doc)")")
 work=$(mktemp -d) || exit 2
 trap 'rm -rf "$work"' EXIT
-mkdir "$work/main" && cp -R "$root/crates.txt" "$root/crates" "$work/" || exit 2
-[ -x "$kit/bin/rattle-print-mir" ] || { echo "no-compile: $kit/bin has no rattle-print-mir"; exit 2; }
-echo 'fn main() {}' >"$work/main/main.rt"
+mkdir "$work/crates" || exit 2
+cp "$root/crates.txt" "$work/" || exit 2
+(cd "$root/crates" && find . -path ./\*/out -prune -o -type f -print | tar cf - -T -) | tar xf - -C "$work/crates" || exit 2
 good=0 bad=0
+
+# A program that does nothing stands above the crate: `rt try` compiles it and all below it from the sources.
+above() { # NAME
+    mkdir -p "$work/crates/nothing_over_$1/src"
+    printf '%s\n' '#![tactic(auto)]' '' 'fn main() {}' >"$work/crates/nothing_over_$1/src/main.rt"
+    echo "nothing_over_$1: $1 $(deps_of "$1")" >>"$work/crates.txt"
+}
 
 deps_of() { # NAME
     sed -n "s/#.*//; s/^ *$1 *: *//p" "$work/crates.txt"
 }
 
-# Compiles a crate of the copy, and every crate of the repository below it, into $work/log.
+# Compiles a crate of the copy, and every crate of the repository below it; what is said goes into $work/log.
 compiles() { # NAME
-    todo=$1 seen=''
-    set -- --extern "std=$kit/rlib/std.rlib" -L "dependency=$kit/rlib"
-    while [ -n "$todo" ]; do
-        next=''
-        for c in $todo; do
-            case " $seen " in *" $c "*) continue ;; esac
-            seen="$seen $c" deps=$(deps_of "$c") next="$next $deps"
-            if [ -d "$work/crates/$c" ]; then
-                set -- "$@" --lib "$c:$(echo std $deps | tr ' ' ,)=$work/crates/$c/src/lib.rt"
-            else
-                set -- "$@" --extern "$c=$kit/rlib/$c.rlib"
-            fi
-        done
-        todo=$(echo $next)
-    done
-    "$kit/bin/rattle-print-mir" "$work/main/main.rt" --crate-name no_compile "$@" >/dev/null 2>"$work/log"
+    (cd "$work/crates/nothing_over_$1" && rt try) >"$work/log" 2>&1
 }
 
 said() {
@@ -74,6 +65,7 @@ try() { # NAME EDIT
 for dir in "$root"/crates/*/no-compile; do
     [ -d "$dir" ] || continue
     crate=$(basename "$(dirname "$dir")")
+    above "$crate"
     if ! compiles "$crate"; then
         echo "no-compile $crate: it does not compile as it stands"; said
         bad=$((bad + 1))

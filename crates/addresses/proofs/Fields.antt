@@ -1,6 +1,6 @@
-use Rattle.std.proofs.Common.{◌≡◌, ℕ, zero, suc, ◌+◌, ◌-◌, ◌*◌, ◌/◌, ◌%◌, ◌<◌, ◌≤◌, Bool, true, false, cond, ◌&&◌, eqb, leb, List, [], ◌∷◌, ◌++◌, length, get_or, take, drop, sym, refl, ap, ◌∙◌, subst, arith, length-drop, eq-eqb, eqb-true, leb-true}
+use Rattle.std.proofs.Common.{◌≡◌, ℕ, ◌+◌, ◌-◌, ◌/◌, ◌%◌, ◌≤◌, Bool, true, false, cond, ◌&&◌, eqb, leb, List, [], ◌∷◌, length, get_or, take, drop, sym, refl, ap, ◌∙◌, subst, arith, eq-eqb, eqb-true, leb-true}
 use Rattle.std.proofs.lemmas.List.{take_rest}
-use Rattle.wire.specs.Address.{number_type_fine, semis_fine, number_fine, content_fine, content_size, LawfulField}
+use Rattle.wire.specs.Address.{number_fine, content_fine, content_size, LawfulField}
 use Rattle.addresses.specs.Field.{is_field}
 
 and_left : (a b : Bool) → (a && b) ≡ true → a ≡ true

@@ -1,4 +1,4 @@
-use Rattle.std.specs.Prelude.{ℕ, ◌+◌, ◌*◌, ◌/◌, Bool, cond, ◌&&◌, List, [], ◌∷◌, length, take, drop, Some, None, Ok, Err, Option, Result, ◌==◌, slice_index}
+use Rattle.std.specs.Prelude.{ℕ, ◌+◌, ◌*◌, ◌/◌, Bool, ◌&&◌, List, ◌∷◌, length, take, drop, Ok, Err, Result, ◌==◌, slice_index}
 use Rattle.terms.specs.declared.refusal.Refusal.{Refusal}
 use Rattle.wire.specs.declared.kind.AddressKind.TheVariants.{Ipv4, Ipv6}
 use Rattle.wire.specs.Kind.{address_kind_number}

@@ -1,4 +1,6 @@
 // Addresses: whether octets are an address field, and address fields made from addresses.
+#![tactic(auto)]
+
 pub mod field;
 pub mod lawful;
 pub mod make;

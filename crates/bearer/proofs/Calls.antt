@@ -3,7 +3,7 @@ use Rattle.std.proofs.Common.{◌≡◌, ℕ, ◌≤◌, List, IfOk, Some, None,
 use Rattle.terms.specs.declared.refusal.Refusal.{Refusal}
 use Rattle.terms.specs.declared.stop.Stop.TheVariants.{Refused}
 use Rattle.terms.specs.declared.stop.Stop.{Stop}
-use Rattle.terms.specs.Question.{Question, first_no, asked, told_of}
+use Rattle.terms.specs.Question.{first_no, asked, told_of}
 use Rattle.terms.proofs.Questions.{refused_unless, done_unless}
 use Rattle.bearer.specs.declared.side.Side.{Side}
 use Rattle.bearer.specs.Meaning.{Meaning, String, garbled, octets, Within, text_of, heard_text, string_of, with_dialogue, open_with, turn, closed, code_of, open_questions, opens_next, open_answer, open_after, give_questions, gives_next, give_answer, give_after, take_questions, taken_by, heard, over, take_answer, take_place, take_after, close_questions, close_answer, close_after}

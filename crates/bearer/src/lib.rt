@@ -1,4 +1,6 @@
 // What a bearer is: one meaning, the calls that alter it, and the trait by which every implementation shows it.
+#![tactic(auto)]
+
 pub mod asks;
 pub mod code;
 mod code_edits;

@@ -1,5 +1,5 @@
 ghost use Rattle.std.specs.Prelude.{◌≡◌};
-ghost use Rattle.bearer.specs.Side.{other as opposite, same as sameSide, highest_octet};
+ghost use Rattle.bearer.specs.Side.{other as opposite, same as same_side, highest_octet};
 
 // The two sides of a dialogue.
 #[derive(Clone, Copy, PartialEq, Eq, Debug)]
@@ -19,7 +19,7 @@ impl Side {
     }
 
     pub fn same(self, side: Side) -> bool
-        ensures { result ≡ sameSide self side }
+        ensures { result ≡ same_side self side }
     {
         match (self, side) {
             (Side::Mobile, Side::Mobile) => true,

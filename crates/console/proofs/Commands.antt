@@ -1,5 +1,5 @@
 -- What the arguments ask for.
-use Rattle.std.proofs.Common.{◌≡◌, ℕ, ◌≤◌, Bool, true, false, cond, List, [], ◌∷◌, map, length, get_or, Some, None, Err, string_bytes, codes, Option, Result, String, sym, refl, ap, ◌∙◌, arith}
+use Rattle.std.proofs.Common.{◌≡◌, ℕ, ◌≤◌, Bool, true, false, cond, List, [], ◌∷◌, map, length, get_or, Some, None, Err, string_bytes, codes, Result, String, sym, refl, ap, ◌∙◌, arith}
 use lib.ListN.{length-map}
 use Rattle.std.specs.Str.{bytes_eq as same_text}
 use Rattle.std.specs.Cmp.Lexicographic.{bytes_decides}

@@ -1,6 +1,6 @@
 -- One character more of a line.
-use Rattle.std.proofs.Common.{◌≡◌, ℕ, ◌+◌, ◌-◌, ◌*◌, ◌%◌, ◌<◌, ◌≤◌, Bool, true, false, cond, not, ◌&&◌, eqb, List, [], ◌∷◌, ◌++◌, length, get_or, take, drop, unwrap_or, sym, refl, ap, ◌∙◌, append_assoc, append-nil, add-zero, arith, eq-eqb, ne_eqb}
-use Rattle.std.proofs.lemmas.List.{at_drop_more, at_drop_all, drop_more}
+use Rattle.std.proofs.Common.{◌≡◌, ℕ, ◌+◌, ◌*◌, ◌%◌, ◌<◌, ◌≤◌, Bool, true, false, cond, not, ◌&&◌, eqb, List, [], ◌∷◌, ◌++◌, length, get_or, drop, unwrap_or, sym, refl, ap, ◌∙◌, append_assoc, append-nil, add-zero, arith, eq-eqb, ne_eqb}
+use Rattle.std.proofs.lemmas.List.{at_drop_more, at_drop_all}
 use Rattle.console.specs.Hex.{digit_value, paired}
 use Rattle.console.specs.Line.{space, unspaced, all, join_first, groups, all_empty, unbroken}
 

@@ -4,7 +4,7 @@ use Rattle.std.specs.Str.{bytes_eq as same_text}
 use Rattle.console.specs.declared.command.Command.{Command}
 use Rattle.console.specs.declared.command.Command.TheVariants.{Strings, Log, Help}
 use Rattle.console.specs.declared.command.Misuse.{Misuse}
-use Rattle.console.specs.declared.command.Misuse.TheVariants.{NoCommand, NoSuchCommand, WordsBehind, LogWords}
+use Rattle.console.specs.declared.command.Misuse.TheVariants.{NoCommand, NoSuchCommand, WordsBehind}
 
 abbrev pub command_named : List ℕ → Option Command
 command_named name = cond (same_text name (codes "strings")) (Some Strings) (cond (same_text name (codes "log")) (Some Log) (cond (same_text name (codes "help")) (Some Help) None))

@@ -1,5 +1,5 @@
 -- What a line of input is.
-use Rattle.std.specs.Prelude.{ℕ, ◌-◌, ◌/◌, ◌%◌, Bool, true, false, cond, not, ◌&&◌, ◌||◌, List, [], ◌∷◌, length, take, Ok, Err, vec_items, Result, ◌==◌, nat_le, slice_index}
+use Rattle.std.specs.Prelude.{ℕ, ◌-◌, ◌/◌, ◌%◌, Bool, true, cond, ◌&&◌, ◌||◌, List, [], ◌∷◌, length, take, Ok, Err, vec_items, Result, ◌==◌, nat_le, slice_index}
 use Rattle.terms.specs.Question.{Question, told}
 use Rattle.console.specs.declared.line.Reason.{Reason}
 use Rattle.console.specs.declared.line.Reason.TheVariants.{NotHex, OddCount, TooLong}

@@ -1,8 +1,7 @@
 -- How many lines, and strings of either kind, were read.
-use Rattle.std.specs.Prelude.{ℕ, ◌+◌, ◌-◌, ◌^◌, min, Bool, true, false, cond, List, is_ok}
+use Rattle.std.specs.Prelude.{ℕ, ◌+◌, ◌-◌, ◌^◌, min, Bool, cond, List, is_ok}
 use Rattle.wire.specs.Pdu.{reading}
 use Rattle.console.specs.declared.strings.Tally.{Tally}
-use Rattle.console.specs.declared.line.Reason.{Reason}
 use Rattle.console.specs.Line.{Meaning, nothing, string, bad}
 
 abbrev pub none : Tally

@@ -1,4 +1,6 @@
 // The commands of the program, as functions on octets and text.
+#![tactic(auto)]
+
 pub mod command;
 pub mod hex;
 pub mod line;

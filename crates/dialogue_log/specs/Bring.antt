@@ -1,4 +1,4 @@
-use Rattle.std.specs.Prelude.{ℕ, List, Some, None, Ok, Err, Option, Result}
+use Rattle.std.specs.Prelude.{ℕ, List, Some, None, Err, Option, Result}
 use Rattle.terms.specs.declared.refusal.Refusal.{Refusal}
 use Rattle.terms.specs.declared.stop.Stop.{Stop}
 use Rattle.terms.specs.declared.stop.Stop.TheVariants.{Refused}

@@ -1,5 +1,5 @@
 -- One line of a log: a side and the raw line, a side that closes, or the loss of the radio.
-use Rattle.std.specs.Prelude.{ℕ, Bool, cond, ◌&&◌, List, length, take, drop, Some, None, codes, Option, nat_le}
+use Rattle.std.specs.Prelude.{ℕ, cond, ◌&&◌, List, length, take, drop, Some, None, codes, Option, nat_le}
 use Rattle.std.specs.Borrow.{Bor}
 use Rattle.std.specs.Str.{bytes_eq}
 use Rattle.bearer.specs.declared.side.Side.{Side}

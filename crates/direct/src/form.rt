@@ -1,4 +1,4 @@
-ghost use Rattle.direct.specs.Form.{held as heldOn, written as standing, read_as as readBack};
+ghost use Rattle.direct.specs.Form.{held as held_on, written as standing, read_as as read_back};
 ghost use Rattle.std.proofs.Common.{rules};
 
 use crate::line::DirectLine;
@@ -7,13 +7,13 @@ use lines::place::Place;
 use terms::refusal::Refusal;
 
 impl Line for DirectLine {
-    ghost held = { heldOn };
+    ghost held = { held_on };
 
     ghost room = { 160 };
 
     ghost written = { standing };
 
-    ghost read_as = { readBack };
+    ghost read_as = { read_back };
 
     ghost lawful = { Prim.search rules };
 

@@ -1,4 +1,6 @@
 // The direct bearer: its line holds the USSD string itself, up to 160 octets.
+#![tactic(auto)]
+
 mod form;
 mod line;
 mod made;

@@ -36,11 +36,11 @@ fn reads_the_long_string(rt: HostRuntime) -> Result<(), Fail> {
         ) => {
             assert!(rt; !more);
             assert!(rt; address.place == 1);
-            assert!(rt; address.octets == &[0x04, 0x0A, 0x00, 0x00, 0x01]);
+            assert!(rt; address.octets == [0x04, 0x0A, 0x00, 0x00, 0x01].as_slice());
             assert!(rt; body.ports.to == 9201);
             assert!(rt; body.ports.from == 49152);
             assert!(rt; body.user.place == 13);
-            assert!(rt; body.user.octets == b"ok");
+            assert!(rt; body.user.octets == b"ok".as_slice());
             Ok(())
         }
         _ => Err(Fail::new("no Data_Long")),
@@ -52,8 +52,8 @@ fn writes_the_long_string(rt: HostRuntime) {
     let address = AddressField::ipv4([10, 0, 0, 1]);
     let mut out = [0xEEu8; 17];
     assert_eq!(rt; write_data_long(&address, payload(), &mut out), Ok(15));
-    assert!(rt; &out[0..15] == &TO_TEN);
-    assert!(rt; &out[15..17] == &[0xEE, 0xEE]);
+    assert!(rt; &out[0..15] == TO_TEN.as_slice());
+    assert!(rt; &out[15..17] == [0xEE, 0xEE].as_slice());
 }
 
 #[test]
@@ -72,7 +72,7 @@ fn numbers_are_packed(rt: HostRuntime) -> Result<(), Fail> {
     let Ok(field) = AddressField::msisdn("46123", NumberType::International) else {
         return Err(Fail::new("46123 is a number"));
     };
-    assert!(rt; field.as_slice() == &[0x45, 0x05, 0x91, 0x64, 0x21, 0xF3]);
+    assert!(rt; field.as_slice() == [0x45, 0x05, 0x91, 0x64, 0x21, 0xF3].as_slice());
     assert!(rt; AddressField::msisdn("+46123", NumberType::International).is_err());
     assert!(rt; AddressField::msisdn("", NumberType::Unknown).is_err());
     Ok(())

@@ -1,5 +1,5 @@
 -- The line of a gateway: begin or continue, the dialogue's number, invoke or result, and the USSD string in capital hexadecimal.
-use Rattle.std.specs.Prelude.{ℕ, ◌+◌, ◌-◌, Bool, true, false, cond, ◌&&◌, List, [], ◌∷◌, ◌++◌, length, take, drop, Some, None, codes, decimal, Option, nat_le}
+use Rattle.std.specs.Prelude.{ℕ, ◌+◌, ◌-◌, Bool, true, false, cond, ◌&&◌, List, ◌++◌, length, take, drop, Some, None, codes, decimal, Option, nat_le}
 use Rattle.std.specs.Str.{bytes_eq}
 use Rattle.bearer.specs.declared.side.Side.{Side}
 use Rattle.bearer.specs.declared.side.Side.TheVariants.{Mobile, Network}

@@ -1,7 +1,7 @@
 -- What is written on a line is read again, and no other line reads as a string.
 use Rattle.std.specs.Prelude.{◌≡◌, ℕ, ◌+◌, ◌-◌, ◌*◌, ◌<◌, ◌≤◌, Bool, true, false, cond, ◌&&◌, leb, List, [], ◌∷◌, ◌++◌, length, take, drop, Some, None, Ok, Err, Option, Result, ◌==◌, nat_le}
 use Rattle.std.proofs.Math.Path.{refl, ap}
-use Rattle.std.proofs.Common.{sym, subst, ◌∙◌, append_assoc, arith, length-drop, length-take, take-append-drop, le-leb, leb-true, eq-eqb, eqb-true}
+use Rattle.std.proofs.Common.{sym, subst, ◌∙◌, append_assoc, arith, take-append-drop, le-leb, leb-true, eq-eqb, eqb-true}
 use Rattle.std.proofs.Math.ListN.{length-append}
 use Rattle.std.proofs.Math.Seq.{take-append_seam}
 use Rattle.std.proofs.lemmas.List.{drop-drop, drop_at, take_rest}

@@ -1,7 +1,7 @@
 ghost use Rattle.std.specs.Prelude.{◌≡◌, length};
 ghost use Rattle.std.specs.Option.{option_map};
 ghost use Rattle.lines.specs.Line.{over};
-ghost use Rattle.gateway.specs.Form.{written as standing, read_as as readBack, framed, between};
+ghost use Rattle.gateway.specs.Form.{written as standing, read_as as read_back, framed, between};
 ghost use Rattle.gateway.specs.Row.{held_in};
 ghost use Rattle.gateway.specs.Form;
 ghost use Rattle.gateway.specs.Forms.{between_back, between_only, between_short};
@@ -50,7 +50,7 @@ impl Line for Row {
 
     ghost written = { standing };
 
-    ghost read_as = { readBack };
+    ghost read_as = { read_back };
 
     ghost lawful = { record { back = λ p xs l e. between_back (Form.head p) Form.tail xs l e; only = λ p ys xs w e. between_only (Form.head p) Form.tail ys xs e; short = λ p ys xs e. between_short (Form.head p) Form.tail ys xs e } };
 

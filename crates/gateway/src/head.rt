@@ -1,5 +1,5 @@
 ghost use Rattle.std.specs.Prelude.{◌≡◌, ◌+◌, ◌≤◌, ◌++◌, length, decimal};
-ghost use Rattle.gateway.specs.Form.{message_type, component_type, head as headAt, tail as tailOf};
+ghost use Rattle.gateway.specs.Form.{message_type, component_type, head as head_at, tail as tail_of};
 ghost use Rattle.gateway.specs.Row.{held_in};
 
 use crate::row::Row;
@@ -42,7 +42,7 @@ fn push_decimal(row: &mut Row, n: u32)
 
 // All of a line before the string.
 pub(crate) fn head_of(place: Place) -> Row
-    ensures octets { held_in result ≡ headAt place }
+    ensures octets { held_in result ≡ head_at place }
     ensures len { length (held_in result) ≤ 120 }
 {
     let mut row = Row::empty();
@@ -58,7 +58,7 @@ pub(crate) fn head_of(place: Place) -> Row
 
 // All of a line behind the string.
 pub(crate) fn tail() -> &'static [u8]
-    ensures octets { result.now ≡ tailOf }
+    ensures octets { result.now ≡ tail_of }
     ensures len { length result.now ≡ 29 }
 {
     b"\"/></component></msg></siggw>"

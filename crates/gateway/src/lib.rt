@@ -1,4 +1,6 @@
 // The gateway bearer: its line is the XML of a USSD gateway, up to 640 octets.
+#![tactic(auto)]
+
 mod form;
 mod head;
 mod made;

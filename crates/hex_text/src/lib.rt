@@ -1,3 +1,5 @@
 // Octets as capital hexadecimal characters, two an octet.
+#![tactic(auto)]
+
 pub mod digits;
 pub mod text;

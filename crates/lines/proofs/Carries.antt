@@ -1,5 +1,5 @@
 -- What a carrier means after its line was written.
-use Rattle.std.proofs.Common.{◌≡◌, ℕ, suc, ◌+◌, ◌≤◌, Bool, true, false, cond, ◌&&◌, eqb, leb, List, [], ◌∷◌, ◌++◌, length, take, drop, Some, None, Option, sym, refl, ap, ◌∙◌, arith, length-append, eqb-true, le-leb, leb-true}
+use Rattle.std.proofs.Common.{◌≡◌, ℕ, suc, ◌+◌, ◌≤◌, true, false, ◌&&◌, eqb, leb, List, [], ◌∷◌, ◌++◌, length, take, drop, Some, None, Option, sym, refl, ap, ◌∙◌, arith, length-append, eqb-true, le-leb, leb-true}
 use lib.Seq.{take-append_seam, drop-append-add}
 use Rattle.std.proofs.lemmas.Bool.{and_parts}
 use Rattle.terms.specs.Question.{unless}
@@ -10,7 +10,7 @@ use Rattle.bearer.specs.declared.side.Standing.TheVariants as standing
 use Rattle.bearer.specs.declared.side.Highest.{Highest}
 use Rattle.bearer.specs.declared.side.Highest.TheVariants.{Seven, Eight}
 use Rattle.bearer.specs.Side.{other, highest_octet}
-use Rattle.bearer.specs.Meaning.{Meaning, Dialogue, code_octets, open_with, turn, under_way, String, garbled, octets, digit, digits, lawful_code, low, standing_in, turn_is, is_for, code_in, string_in, Within}
+use Rattle.bearer.specs.Meaning.{Meaning, code_octets, open_with, under_way, String, garbled, octets, digit, digits, lawful_code, low, standing_in, turn_is, code_in}
 use Rattle.lines.specs.declared.place.Place.{Place}
 use Rattle.lines.specs.declared.state.Phase.{Phase}
 use Rattle.lines.specs.declared.state.Phase.TheVariants.{Closed, Turn, Opening, UnderWay}

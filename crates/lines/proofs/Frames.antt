@@ -1,6 +1,6 @@
 -- What is framed is read again.
-use Rattle.std.proofs.Common.{◌≡◌, ℕ, suc, ◌+◌, ◌-◌, ◌<◌, ◌≤◌, Bool, true, false, cond, ◌&&◌, eqb, leb, List, [], ◌∷◌, ◌++◌, length, get_or, take, drop, Some, None, Option, sym, refl, ap, ◌∙◌, append_assoc, one-add, arith, length-append, le-leb, leb-true}
-use lib.Seq.{take-append_seam, drop-append_seam, drop-append-add}
+use Rattle.std.proofs.Common.{◌≡◌, ℕ, ◌+◌, ◌-◌, ◌≤◌, Bool, true, false, cond, ◌&&◌, eqb, leb, List, [], ◌∷◌, ◌++◌, length, get_or, take, Some, None, sym, refl, ap, ◌∙◌, append_assoc, one-add, arith, length-append, le-leb}
+use lib.Seq.{take-append_seam}
 use Rattle.bearer.specs.Meaning.{digit, digits}
 use Rattle.lines.specs.Frame.{frame, run, middle, bounded, coded, code_digits}
 

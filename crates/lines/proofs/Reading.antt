@@ -1,5 +1,5 @@
 -- What was read from a line stands at the front of the buffer.
-use Rattle.std.proofs.Common.{◌≡◌, ℕ, ◌-◌, ◌≤◌, List, [], ◌∷◌, ◌++◌, length, take, drop, Some, None, Option, sym, refl, ap, ◌∙◌, arith}
+use Rattle.std.proofs.Common.{◌≡◌, ℕ, ◌-◌, List, length, take, drop, Some, None, Option, ap, ◌∙◌, arith}
 use lib.Seq.{take-append_seam}
 use Rattle.std.specs.Option.{option_map}
 use Rattle.lines.specs.Line.{over}

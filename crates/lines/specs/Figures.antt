@@ -1,12 +1,12 @@
 -- A carrier's string lies within its figures, and its code has at most four digits.
-use Rattle.std.specs.Prelude.{◌≡◌, ℕ, ◌+◌, ◌≤◌, Bool, true, false, cond, ◌&&◌, List, [], ◌∷◌, length, take, drop, Some, None, Option, ◌==◌, nat_le, slice_index, refl}
-use Rattle.std.proofs.Common.{sym, ap, subst, ◌∙◌, arith, length-take, leb-true}
+use Rattle.std.specs.Prelude.{◌≡◌, ℕ, ◌+◌, ◌≤◌, Bool, true, false, cond, ◌&&◌, List, length, take, drop, Some, None, Option, ◌==◌, nat_le, slice_index, refl}
+use Rattle.std.proofs.Common.{arith, length-take, leb-true}
 use Rattle.std.proofs.Math.Nat.{min-le_left}
 use Rattle.std.proofs.lemmas.Bool.{and_parts}
 use Rattle.bearer.specs.declared.side.Side.TheVariants.{Mobile, Network}
 use Rattle.bearer.specs.declared.code.Code.{Code}
 use Rattle.bearer.specs.Side.{highest_octet}
-use Rattle.bearer.specs.Meaning.{Meaning, Dialogue, String, garbled, octets, low, code_in, string_in, Within, Figured, code_octets}
+use Rattle.bearer.specs.Meaning.{Dialogue, String, garbled, octets, low, code_in, string_in, Within, Figured, code_octets}
 use Rattle.lines.specs.declared.place.Place.{Place}
 use Rattle.lines.specs.declared.state.Phase.{Phase}
 use Rattle.lines.specs.declared.state.Phase.TheVariants.{Closed, Turn, Opening, UnderWay}

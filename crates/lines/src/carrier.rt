@@ -1,5 +1,5 @@
 ghost use Rattle.std.specs.Prelude.{◌≡◌, ◌+◌, ◌<◌, ◌≤◌, true, length, Some};
-ghost use Rattle.bearer.specs.Meaning.{text_of, over as laidOver, string_in, code_in, code_octets, stand_of, turn_is, lawful_code, low, opens_next, gives_next};
+ghost use Rattle.bearer.specs.Meaning.{text_of, over as laid_over, string_in, code_in, code_octets, stand_of, turn_is, lawful_code, low, opens_next, gives_next};
 ghost use Rattle.bearer.specs.Side.{highest_octet, other};
 ghost use Rattle.lines.specs.State.{heard_of, opens, place_in, means_by, closed_at, stands_as};
 
@@ -51,7 +51,7 @@ impl<L: Line> Carrier<L> {
     // What is heard of a string that stands bare.
     pub(crate) fn bare(&self, out: &mut [u8; 160]) -> Text
         ensures answer { Some result ≡ text_of (Some (heard_of (highest_octet self.now.highest) (L.Line.read_as (place_in self.now.phase self.now.number) (L.Line.held self.now.line)))) }
-        ensures copied { out.new ≡ laidOver (Some (heard_of (highest_octet self.now.highest) (L.Line.read_as (place_in self.now.phase self.now.number) (L.Line.held self.now.line)))) out.old }
+        ensures copied { out.new ≡ laid_over (Some (heard_of (highest_octet self.now.highest) (L.Line.read_as (place_in self.now.phase self.now.number) (L.Line.held self.now.line)))) out.old }
     {
         let mut raw = [0u8; 160];
         let Some(n) = self.line.read(self.place(), &mut raw) else {
@@ -64,7 +64,7 @@ impl<L: Line> Carrier<L> {
     pub(crate) fn opened(&self, out: &mut [u8; 160]) -> Opened
         ensures code { code_octets result.code ≡ code_in (opens (highest_octet self.now.highest) (L.Line.read_as (place_in self.now.phase self.now.number) (L.Line.held self.now.line))) }
         ensures answer { Some result.text ≡ text_of (string_in (opens (highest_octet self.now.highest) (L.Line.read_as (place_in self.now.phase self.now.number) (L.Line.held self.now.line)))) }
-        ensures copied { out.new ≡ laidOver (string_in (opens (highest_octet self.now.highest) (L.Line.read_as (place_in self.now.phase self.now.number) (L.Line.held self.now.line)))) out.old }
+        ensures copied { out.new ≡ laid_over (string_in (opens (highest_octet self.now.highest) (L.Line.read_as (place_in self.now.phase self.now.number) (L.Line.held self.now.line)))) out.old }
     {
         let mut raw = [0u8; 160];
         let Some(n) = self.line.read(self.place(), &mut raw) else {

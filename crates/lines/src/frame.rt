@@ -1,5 +1,5 @@
 ghost use Rattle.std.specs.Prelude.{◌≡◌, ◌+◌, ◌<◌, ◌≤◌, length, Some, None};
-ghost use Rattle.lines.specs.Frame.{frame as framedAs, code_digits, run};
+ghost use Rattle.lines.specs.Frame.{frame as framed_as, code_digits, run};
 ghost use Rattle.lines.specs.Ussd.{held_in};
 
 use crate::ussd::Ussd;
@@ -7,7 +7,7 @@ use crate::ussd::Ussd;
 // A mobile's opening string: `*#`, the code, `*`, the octets, `#`.
 pub(crate) fn framed(code: &[u8], octets: &[u8]) -> Ussd
     requires { (length code.now ≤ 4) × (length octets.now ≤ 152) }
-    ensures { held_in result ≡ framedAs code.now octets.now }
+    ensures { held_in result ≡ framed_as code.now octets.now }
 {
     let mut string = Ussd::empty();
     string.push(b'*');

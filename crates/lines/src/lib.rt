@@ -1,4 +1,6 @@
 // Bearers that hold a line: one text for every form in which a USSD string may stand on a line.
+#![tactic(auto)]
+
 mod carrier;
 mod frame;
 mod hear;

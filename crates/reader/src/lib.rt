@@ -1,4 +1,6 @@
 // The reader: from a string to the PDU that stands there, or to the first rule that it breaks.
+#![tactic(auto)]
+
 mod body;
 mod header;
 mod pdu;

@@ -1,4 +1,6 @@
 // Every call of a bearer in every kind of state, over both bearers: what is answered, and whether all is as it was.
+#![tactic(auto)]
+
 mod call;
 mod look;
 mod state;

@@ -16,9 +16,9 @@ pub fn answer_once<B: Bearer>(
     place: &mut [u8; 160],
     octets: &[u8],
 ) -> Result<(Result<usize, Fault>, Listening), Refusal>
-    ensures answer { result ≡ answer_once side octets.now (meaning b.old) }
-    ensures place { place.new ≡ take_place side place.old (meaning b.old) }
-    ensures after { meaning b.new ≡ once_left side octets.now (meaning b.old) }
+    ensures answer { result ≡ answer_once side octets.now (B.meaning b.old) }
+    ensures place { place.new ≡ take_place side place.old (B.meaning b.old) }
+    ensures after { B.meaning b.new ≡ once_left side octets.now (B.meaning b.old) }
 {
     let (heard, speaking) = Speaking::begin(b, side, place)?;
     match speaking.give(b, octets) {

@@ -1,5 +1,7 @@
 // Sessions: one side's place in a dialogue of any bearer, as a value. A session that speaks can only give, one that listens
 // can only take; each call spends it, and hands back the next one or, with the refusal, the same.
+#![tactic(auto)]
+
 mod answer;
 mod laws;
 mod listening;

@@ -17,8 +17,8 @@ impl Listening {
         code: &[u8],
         octets: &[u8],
     ) -> Result<Listening, Refusal>
-        ensures answer { result ≡ opens side code.now octets.now (meaning b.old) }
-        ensures after { meaning b.new ≡ open_after side code.now octets.now (meaning b.old) }
+        ensures answer { result ≡ opens side code.now octets.now (B.meaning b.old) }
+        ensures after { B.meaning b.new ≡ open_after side code.now octets.now (B.meaning b.old) }
     {
         b.open(side, code, octets)?;
         let number = b.number();
@@ -31,9 +31,9 @@ impl Listening {
         b: &mut B,
         place: &mut [u8; 160],
     ) -> Result<(Result<usize, Fault>, Speaking), (Refusal, Listening)>
-        ensures answer { result ≡ take_in self (meaning b.old) }
-        ensures place { place.new ≡ place_in self place.old (meaning b.old) }
-        ensures after { meaning b.new ≡ take_left self (meaning b.old) }
+        ensures answer { result ≡ take_in self (B.meaning b.old) }
+        ensures place { place.new ≡ place_in self place.old (B.meaning b.old) }
+        ensures after { B.meaning b.new ≡ take_left self (B.meaning b.old) }
     {
         if b.number() != self.number {
             return Err((Refusal::NotOpen, self));

@@ -26,8 +26,8 @@ pub trait Session: Sized {
 
     // Ends the session's dialogue.
     fn close<B: Bearer>(self, b: &mut B) -> Result<(), (Refusal, Self)>
-        ensures answer { result ≡ close_in self (number_of self) (meaning b.old) }
-        ensures after { meaning b.new ≡ close_left (number_of self) (meaning b.old) }
+        ensures answer { result ≡ close_in self (number_of self) (B.meaning b.old) }
+        ensures after { B.meaning b.new ≡ close_left (number_of self) (B.meaning b.old) }
     {
         if b.number() != self.number() {
             return Err((Refusal::NotOpen, self));

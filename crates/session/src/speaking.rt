@@ -16,9 +16,9 @@ impl Speaking {
         side: Side,
         place: &mut [u8; 160],
     ) -> Result<(Result<usize, Fault>, Speaking), Refusal>
-        ensures answer { result ≡ begins side (meaning b.old) }
-        ensures place { place.new ≡ take_place side place.old (meaning b.old) }
-        ensures after { meaning b.new ≡ take_after side (meaning b.old) }
+        ensures answer { result ≡ begins side (B.meaning b.old) }
+        ensures place { place.new ≡ take_place side place.old (B.meaning b.old) }
+        ensures after { B.meaning b.new ≡ take_after side (B.meaning b.old) }
     {
         let heard = sorted(b.take(side, place))?;
         let number = b.number();
@@ -27,8 +27,8 @@ impl Speaking {
 
     // Sends octets to the other side.
     pub fn give<B: Bearer>(self, b: &mut B, octets: &[u8]) -> Result<Listening, (Refusal, Speaking)>
-        ensures answer { result ≡ give_in self octets.now (meaning b.old) }
-        ensures after { meaning b.new ≡ give_left self octets.now (meaning b.old) }
+        ensures answer { result ≡ give_in self octets.now (B.meaning b.old) }
+        ensures after { B.meaning b.new ≡ give_left self octets.now (B.meaning b.old) }
     {
         if b.number() != self.number {
             return Err((Refusal::NotOpen, self));

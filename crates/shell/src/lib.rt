@@ -1,4 +1,6 @@
 // The program's commands over standard input and output.
+#![tactic(auto)]
+
 mod log;
 mod log_words;
 mod options;

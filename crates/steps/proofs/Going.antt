@@ -1,5 +1,5 @@
 -- One step more of reading a string.
-use Rattle.std.proofs.Common.{◌≡◌, ℕ, ◌+◌, ◌-◌, ◌<◌, ◌≤◌, Bool, true, false, cond, ◌&&◌, ltb, leb, List, [], ◌∷◌, ◌++◌, length, get_or, take, drop, sym, refl, ap, ◌∙◌, append_assoc, arith, lt-ltb, ne_eqb, le-leb}
+use Rattle.std.proofs.Common.{◌≡◌, ℕ, ◌+◌, ◌-◌, ◌<◌, ◌≤◌, Bool, true, false, cond, ◌&&◌, leb, List, [], ◌∷◌, ◌++◌, length, get_or, take, drop, sym, ap, ◌∙◌, append_assoc, arith, lt-ltb, ne_eqb, le-leb}
 use Rattle.std.proofs.lemmas.List.{map_push, take_rest}
 use Rattle.terms.specs.declared.fault.Fault.{Fault}
 use Rattle.wire.specs.Header.{Element, elements_in}

@@ -1,2 +1,4 @@
 // How a string was read, step by step.
+#![tactic(auto)]
+
 pub mod step;

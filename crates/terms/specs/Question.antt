@@ -1,5 +1,5 @@
 -- Ordered questions: a call puts its questions one after the other, and the first no is its answer.
-use Rattle.std.specs.Prelude.{ℕ, Bool, true, false, cond, List, [], ◌∷◌, Some, None, Ok, Err, Option, Result, ◌==◌}
+use Rattle.std.specs.Prelude.{ℕ, Bool, cond, List, [], ◌∷◌, Some, None, Ok, Err, Option, Result, ◌==◌}
 
 -- whether it is answered by yes, and what a no gives
 pub record Question (E : Type 0) : Type 0 where

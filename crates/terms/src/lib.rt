@@ -1,4 +1,6 @@
 // The words that every layer shares: refusals, causes, faults, and the laws of ordered questions.
+#![tactic(auto)]
+
 pub mod cause;
 pub mod fault;
 pub mod laws;

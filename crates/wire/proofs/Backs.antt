@@ -1,4 +1,4 @@
-use Rattle.std.proofs.Common.{◌≡◌, ℕ, ◌+◌, ◌*◌, ◌/◌, ◌%◌, ◌≤◌, Bool, true, false, cond, ◌&&◌, eqb, leb, List, [], ◌∷◌, ◌++◌, length, take, drop, Some, None, Ok, Err, Option, Result, sym, refl, ap, ◌∙◌, subst, arith, le-leb}
+use Rattle.std.proofs.Common.{◌≡◌, ℕ, ◌+◌, ◌*◌, ◌/◌, ◌%◌, ◌≤◌, Bool, true, false, cond, ◌&&◌, leb, List, [], ◌∷◌, ◌++◌, length, take, drop, Some, None, Option, Result, sym, refl, ap, ◌∙◌, subst, arith, le-leb}
 use native.Mathlib.Nat.{mod-add-div'}
 use lib.Seq.{take-append_seam}
 use Rattle.terms.specs.declared.refusal.Refusal.{Refusal}
@@ -7,12 +7,12 @@ use Rattle.terms.specs.Question.{told_of, unless_of}
 use Rattle.terms.specs.Buffer.{answer_of, left_in}
 use Rattle.wire.specs.declared.header.Ports.{Ports}
 use Rattle.wire.specs.Segment.{Numbers}
-use Rattle.wire.specs.Header.{Element, fine_of, ports_in}
+use Rattle.wire.specs.Header.{fine_of, ports_in}
 use Rattle.wire.specs.Pdu as read
 use Rattle.wire.specs.declared.kind.Kind.TheVariants as kind
 use Rattle.wire.specs.Format.{Tells, Stands, opening, header_of}
 use Rattle.wire.specs.Written as sent
-use Rattle.wire.specs.Back.{placed_segment, carried_at, read_as, LawfulSegment, Lawful, ReadsBack, ReadsAs}
+use Rattle.wire.specs.Back.{carried_at, read_as, LawfulSegment, Lawful, ReadsBack, ReadsAs}
 use Rattle.wire.proofs.Completes.{complete}
 
 fine_3 : (r c s : ℕ) → 1 ≤ s → s ≤ c → fine_of 0 (r ∷ c ∷ s ∷ []) ≡ true

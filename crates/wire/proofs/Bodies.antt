@@ -1,4 +1,4 @@
-use Rattle.std.proofs.Common.{◌≡◌, ℕ, ◌+◌, ◌-◌, ◌<◌, ◌≤◌, Bool, true, false, cond, leb, List, [], ◌∷◌, ◌++◌, length, get_or, take, drop, is_some, Some, None, Ok, Err, Option, Result, unwrap_or, sym, refl, ap, ◌∙◌, arith, length-drop, le-leb}
+use Rattle.std.proofs.Common.{◌≡◌, ℕ, ◌+◌, ◌-◌, ◌<◌, ◌≤◌, cond, List, [], ◌∷◌, ◌++◌, length, get_or, take, drop, is_some, Some, None, Ok, Err, Option, Result, unwrap_or, sym, refl, ap, ◌∙◌, arith, le-leb}
 use borrow.Author.Tests.{lt-leb}
 use Rattle.std.proofs.lemmas.List.{take_rest}
 use Rattle.terms.specs.declared.fault.Fault.{Fault}
@@ -8,7 +8,7 @@ use Rattle.wire.specs.declared.header.Found.{Found}
 use Rattle.terms.specs.Question.{Question, first_no, told_of, told}
 use Rattle.terms.specs.Cause.{ask, fault_of}
 use Rattle.wire.specs.Header.{elements_in, questions_on, found_in}
-use Rattle.wire.specs.Pdu.{Carried, header_size, header_elements, header_found, header_questions, no_ports, body_in}
+use Rattle.wire.specs.Pdu.{Carried, header_elements, header_found, header_questions, no_ports, body_in}
 use Rattle.terms.proofs.Questions.{told_err, told_ok, told_is}
 
 abbrev pub wrong : ℕ → Fault

@@ -1,25 +1,22 @@
 -- Every string that keeps the rules of the format is read as the PDU that it is.
-use Rattle.std.proofs.Common.{◌≡◌, ℕ, ◌+◌, ◌-◌, ◌*◌, ◌/◌, ◌%◌, ◌<◌, ◌≤◌, Bool, true, false, cond, not, ◌&&◌, ◌||◌, eqb, ltb, leb, List, [], ◌∷◌, ◌++◌, length, get_or, take, drop, Some, None, Ok, Err, Option, Result, sym, refl, ap, ◌∙◌, subst, arith, length-append, le-leb}
+use Rattle.std.proofs.Common.{◌≡◌, ℕ, ◌+◌, ◌-◌, ◌/◌, ◌%◌, ◌≤◌, Bool, true, false, cond, not, ◌&&◌, ◌||◌, eqb, ltb, leb, List, [], ◌∷◌, ◌++◌, length, get_or, take, drop, Some, None, Ok, sym, refl, ap, ◌∙◌, subst, arith, length-append, le-leb}
 use lib.Seq.{take-append_seam, get_or-append_seam}
 use Rattle.std.proofs.lemmas.List.{drop-drop, drop_at, take_rest}
-use Rattle.terms.specs.declared.fault.Fault.{Fault}
 use Rattle.terms.specs.declared.fault.Layer.TheVariants as layer
 use Rattle.terms.specs.Question.{told, told_of}
 use Rattle.terms.specs.Cause.{fault_of}
 use Rattle.terms.specs.Laws.{AllHold}
 use Rattle.terms.proofs.Questions.{told_to, told_all}
-use Rattle.wire.specs.declared.header.Ports.{Ports}
-use Rattle.wire.specs.declared.header.Found.{Found}
 use Rattle.wire.specs.declared.kind.Kind.TheVariants as kind
 use Rattle.wire.specs.declared.code.ErrorCode.{ErrorCode}
 use Rattle.wire.specs.declared.code.ErrorCode.TheVariants as error
 use Rattle.wire.specs.declared.code.ReleaseCode.{ReleaseCode}
 use Rattle.wire.specs.declared.code.ReleaseCode.TheVariants as release
 use Rattle.wire.specs.Code.{error_number, release_number}
-use Rattle.wire.specs.Address.{LawfulField, content_fine, content_size, address_fine}
+use Rattle.wire.specs.Address.{LawfulField, content_fine, address_fine}
 use Rattle.wire.specs.Header.{Element, filled, elements_in, fine_of, questions_on, found_in}
-use Rattle.wire.specs.Pdu.{Span, Carried, Read, data_of, long_of, ready, error_of, release_of, start_questions, address_questions, field_size, header_questions, body_in, told_form, data_form, long_form, reading}
-use Rattle.wire.specs.Format.{Placed, AllFine, opening, header_of, Tells, Stands, Complete}
+use Rattle.wire.specs.Pdu.{Span, Carried, data_of, long_of, ready, error_of, release_of, start_questions, address_questions, field_size, header_questions, body_in, told_form, data_form, long_form, reading}
+use Rattle.wire.specs.Format.{Placed, AllFine, opening, header_of, Tells, Complete}
 use Rattle.wire.proofs.Fillings.{fills}
 use Rattle.wire.proofs.Bodies.{body_is}
 use Rattle.wire.proofs.Readings.{by_form, long_is}

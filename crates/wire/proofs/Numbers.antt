@@ -1,10 +1,9 @@
-use Rattle.std.proofs.Common.{◌≡◌, ℕ, zero, suc, ◌+◌, ◌-◌, ◌*◌, ◌/◌, ◌%◌, ◌<◌, ◌≤◌, Bool, true, false, cond, not, ◌&&◌, ◌||◌, eqb, leb, List, [], ◌∷◌, ◌++◌, length, get_or, take, drop, set, is_some, Some, None, Option, unwrap_or, sym, refl, ap, ◌∙◌, subst, append_assoc, add-one, arith, drop-cons, take-suc-set, eq-eqb, ne_eqb, le-leb, leb-true}
-use borrow.Author.Tests.{lt-leb}
+use Rattle.std.proofs.Common.{◌≡◌, ℕ, zero, suc, ◌+◌, ◌-◌, ◌*◌, ◌/◌, ◌%◌, ◌<◌, ◌≤◌, Bool, true, false, cond, not, ◌&&◌, eqb, leb, List, [], ◌∷◌, ◌++◌, length, get_or, take, drop, set, is_some, Some, None, Option, unwrap_or, sym, refl, ap, ◌∙◌, append_assoc, add-one, arith, drop-cons, take-suc-set, eq-eqb, ne_eqb, le-leb, leb-true}
 use Rattle.std.proofs.lemmas.Bool.Decides.{nat_tests}
 use Rattle.wire.specs.declared.kind.NumberType.{NumberType}
 use Rattle.wire.specs.declared.kind.NumberType.TheVariants.{Unknown, International}
 use Rattle.wire.specs.Kind.{number_type_octet}
-use Rattle.wire.specs.Address.{pair_fine, semis_fine, number_type_fine, number_fine, content_fine, content_size, LawfulField}
+use Rattle.wire.specs.Address.{pair_fine, semis_fine, number_type_fine, number_fine, content_fine, LawfulField}
 use Rattle.wire.specs.Number.{semi_of, all_digits, lawful_text, digit_of, digits_of, packed, number_field}
 
 small_step : (b : Bool) (n : ℕ) (o : Option ℕ) → (b ≡ true → n ≤ 14) → unwrap_or o 0 ≤ 14 → unwrap_or (cond b (Some n) o) 0 ≤ 14

@@ -1,11 +1,11 @@
-use Rattle.std.proofs.Common.{◌≡◌, ℕ, ◌+◌, ◌-◌, ◌/◌, ◌%◌, ◌<◌, ◌≤◌, Bool, true, false, cond, ◌&&◌, eqb, leb, ◌≢◌, List, [], ◌∷◌, ◌++◌, length, get_or, take, drop, Ok, Err, Result, sym, refl, ap, ◌∙◌, arith, length-drop, eq-eqb, ne_eqb, leb-true}
+use Rattle.std.proofs.Common.{◌≡◌, ℕ, ◌+◌, ◌-◌, ◌/◌, ◌%◌, ◌≤◌, Bool, true, false, cond, ◌&&◌, eqb, leb, ◌≢◌, List, length, get_or, take, drop, Ok, Err, Result, sym, refl, ap, ◌∙◌, arith, length-drop, ne_eqb, leb-true}
 use Rattle.std.proofs.lemmas.List.{take_rest}
 use Rattle.terms.specs.declared.fault.Fault.{Fault}
 use Rattle.terms.specs.declared.fault.Layer.TheVariants as layer
-use Rattle.terms.specs.Question.{told, told_of}
+use Rattle.terms.specs.Question.{told}
 use Rattle.terms.specs.Cause.{fault_of}
 use Rattle.wire.specs.Address.{address_fine, content_size, content_fine}
-use Rattle.wire.specs.Pdu.{Carried, header_questions, body_in, Read, long_of, first, kind_in, more, start_questions, address_questions, field_size, Form, told_form, data_form, long_form, ready_form, error_form, release_form, form_of, reading}
+use Rattle.wire.specs.Pdu.{Carried, header_questions, body_in, Read, long_of, kind_in, more, start_questions, address_questions, field_size, Form, told_form, data_form, long_form, ready_form, error_form, release_form, form_of, reading}
 use Rattle.terms.proofs.Questions.{told_err, told_ok, told_is, told_to, told_err_to}
 
 pub start_err : (xs : List ℕ) (f : Fault) → Err f ≡ told (start_questions xs) (get_or xs 0 0) → Err f ≡ reading xs

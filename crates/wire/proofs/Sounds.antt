@@ -1,24 +1,20 @@
 -- No string that reads as a PDU breaks a rule of the format.
-use Rattle.std.proofs.Common.{◌≡◌, ℕ, zero, suc, ◌+◌, ◌-◌, ◌*◌, ◌/◌, ◌%◌, ◌<◌, ◌≤◌, Bool, true, false, cond, not, ◌&&◌, ◌||◌, eqb, ltb, leb, List, [], ◌∷◌, ◌++◌, length, get_or, take, drop, is_some, Some, None, Ok, Err, Option, Result, unwrap_or, sym, refl, ap, ◌∙◌, subst, mod-lt, add-one, one-add, arith, length-append, length-drop, take-append-drop, length-take-le, drop-cons, ltb-true, eqb-true, leb-true}
+use Rattle.std.proofs.Common.{◌≡◌, ℕ, zero, suc, ◌+◌, ◌/◌, ◌%◌, ◌<◌, ◌≤◌, Bool, true, false, cond, not, ◌&&◌, ◌||◌, eqb, leb, List, [], ◌∷◌, ◌++◌, length, take, drop, is_some, Some, None, Option, unwrap_or, sym, refl, ap, ◌∙◌, subst, mod-lt, add-one, one-add, arith, length-drop, take-append-drop, length-take-le, drop-cons, eqb-true, leb-true}
 use native.Mathlib.Nat.{mod-add-div'}
 use borrow.Author.Tests.{eqb-false}
 use Rattle.std.proofs.lemmas.List.{drop-drop}
-use Rattle.terms.specs.declared.fault.Fault.{Fault}
 use Rattle.terms.specs.declared.fault.Layer.TheVariants as layer
-use Rattle.terms.specs.Question.{Question, told}
 use Rattle.terms.specs.Cause.{ask}
 use Rattle.terms.specs.Laws.{AllHold}
 use Rattle.terms.proofs.Questions.{told_is, told_holds, hold_split}
 use Rattle.wire.specs.declared.header.Ports.{Ports}
-use Rattle.wire.specs.declared.kind.Kind.{Kind}
 use Rattle.wire.specs.declared.kind.Kind.TheVariants as kind
 use Rattle.wire.specs.declared.code.ErrorCode.TheVariants as error
 use Rattle.wire.specs.declared.code.ReleaseCode.TheVariants as release
-use Rattle.wire.specs.Kind.{kind_number}
 use Rattle.wire.specs.Code.{error_number, error_numbered, release_number, release_numbered}
 use Rattle.wire.specs.Address.{LawfulField, content_fine, content_size, address_fine}
-use Rattle.wire.specs.Header.{Element, overrun, filled, elements_in, fine_of, questions_on, found_in}
-use Rattle.wire.specs.Pdu.{Carried, Read, data_of, long_of, ready, error_of, release_of, first, kind_in, more, start_questions, exact_questions, code_questions, code_in, address_questions, field_size, field_in, header_size, header_elements, header_found, header_questions, no_ports, body_in, Form, form_of, data_form, long_form, ready_form, error_form, release_form, reading}
+use Rattle.wire.specs.Header.{Element, overrun, filled, elements_in, fine_of, questions_on}
+use Rattle.wire.specs.Pdu.{Read, kind_in, more, start_questions, code_questions, code_in, address_questions, field_size, header_size, header_elements, header_found, header_questions, no_ports, body_in, form_of}
 use Rattle.wire.specs.Format.{Placed, all_whole, AllFine, opening, header_of, Tells, Stands, Sound}
 use Rattle.wire.proofs.Fillings.{filled_is}
 use Rattle.wire.proofs.Walks.{skipped}

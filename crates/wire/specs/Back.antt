@@ -1,5 +1,5 @@
 -- What was written reads back as what was sent.
-use Rattle.std.specs.Prelude.{◌≡◌, ℕ, ◌+◌, ◌≤◌, Bool, List, [], ◌∷◌, ◌++◌, length, take, IfOk, Some, None, Ok, Err, Option, Result}
+use Rattle.std.specs.Prelude.{◌≡◌, ℕ, ◌+◌, ◌≤◌, List, length, take, IfOk, Some, None, Ok, Option, Result}
 use Rattle.terms.specs.declared.refusal.Refusal.{Refusal}
 use Rattle.wire.specs.declared.header.Ports.{Ports}
 use Rattle.wire.specs.declared.header.SegmentAt.{SegmentAt}

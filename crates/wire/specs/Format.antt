@@ -1,12 +1,12 @@
 -- The format in its own words: which strings are a PDU, and which PDU each is.
-use Rattle.std.specs.Prelude.{◌≡◌, ℕ, ◌+◌, Bool, true, false, cond, ◌&&◌, List, [], ◌∷◌, ◌++◌, length, Some, None, Ok, Err, Option, Result}
+use Rattle.std.specs.Prelude.{◌≡◌, ℕ, ◌+◌, Bool, true, false, cond, ◌&&◌, List, [], ◌∷◌, ◌++◌, length, Some, Ok}
 use Rattle.wire.specs.declared.kind.Kind.{Kind}
 use Rattle.wire.specs.declared.kind.Kind.TheVariants as kind
 use Rattle.wire.specs.Kind.{kind_number}
 use Rattle.wire.specs.Code.{error_number, release_number}
 use Rattle.wire.specs.Address.{LawfulField}
 use Rattle.wire.specs.Header.{Element, filled, fine_of, elements_in, ports_kind, segment_kind, ports_of, segment_of, last_of}
-use Rattle.wire.specs.Pdu.{Span, Carried, Read, data_of, long_of, ready, error_of, release_of, reading}
+use Rattle.wire.specs.Pdu.{Carried, Read, data_of, long_of, ready, error_of, release_of, reading}
 
 -- whole elements, the first at a place and each where the one before ends
 abbrev pub Placed : ℕ → List Element → Type 0

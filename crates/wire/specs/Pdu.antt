@@ -1,13 +1,13 @@
 -- Reading a string: its questions in order, each with cause, place and layer, and what stands there where all hold.
-use Rattle.std.specs.Prelude.{ℕ, ◌+◌, ◌-◌, ◌*◌, ◌/◌, ◌%◌, Bool, true, false, cond, not, ◌&&◌, ◌||◌, List, [], ◌∷◌, ◌++◌, length, take, drop, is_some, Some, None, Ok, Err, Option, Result, ◌==◌, nat_le, nat_lt, slice_index}
+use Rattle.std.specs.Prelude.{ℕ, ◌+◌, ◌/◌, ◌%◌, Bool, cond, not, ◌&&◌, ◌||◌, List, [], ◌∷◌, ◌++◌, length, take, drop, is_some, Ok, Err, Option, Result, ◌==◌, nat_le, nat_lt, slice_index}
 use Rattle.std.specs.Option.{unwrap_or}
 use Rattle.terms.specs.declared.fault.Fault.{Fault}
 use Rattle.terms.specs.declared.fault.Layer.TheVariants as layer
 use Rattle.terms.specs.Question.{Question, told}
 use Rattle.terms.specs.Cause.{ask}
-use Rattle.wire.specs.declared.pdu.Part as the-part
-use Rattle.wire.specs.declared.pdu.Body as the-body
-use Rattle.wire.specs.declared.pdu.Pdu as the-pdu
+use Rattle.wire.specs.declared.pdu.Part as the_part
+use Rattle.wire.specs.declared.pdu.Body as the_body
+use Rattle.wire.specs.declared.pdu.Pdu as the_pdu
 use Rattle.wire.specs.declared.pdu.Pdu.TheVariants as is
 use Rattle.wire.specs.declared.kind.Kind.TheVariants as kind
 use Rattle.wire.specs.declared.header.Ports.{Ports}
@@ -42,24 +42,24 @@ pub data Read : Type 0 where
   error_of : ErrorCode → Read
   release_of : ReleaseCode → Read
 
-abbrev pub span : the-part.Part → Span
+abbrev pub span : the_part.Part → Span
 span p = record { place = p.place; octets = p.octets.now }
 
-abbrev pub carried : the-body.Body → Carried
+abbrev pub carried : the_body.Body → Carried
 carried b = record { header = b.header; ports = b.ports; segment = b.segment; user = span b.user }
 
-abbrev pub seen_body : Result the-body.Body Fault → Result Carried Fault
+abbrev pub seen_body : Result the_body.Body Fault → Result Carried Fault
 seen_body (Ok b) = Ok (carried b)
 seen_body (Err f) = Err f
 
-abbrev pub seen_pdu : the-pdu.Pdu → Read
+abbrev pub seen_pdu : the_pdu.Pdu → Read
 seen_pdu (is.Data m b) = data_of m (carried b)
 seen_pdu (is.DataLong m a b) = long_of m (span a) (carried b)
 seen_pdu is.Ready = ready
 seen_pdu (is.Error c) = error_of c
 seen_pdu (is.Release c) = release_of c
 
-abbrev pub seen : Result the-pdu.Pdu Fault → Result Read Fault
+abbrev pub seen : Result the_pdu.Pdu Fault → Result Read Fault
 seen (Ok p) = Ok (seen_pdu p)
 seen (Err f) = Err f
 

@@ -1,13 +1,12 @@
 -- What is sent, and the octets that it is written as.
-use Rattle.std.specs.Prelude.{ℕ, ◌+◌, ◌/◌, ◌%◌, Bool, true, false, List, [], ◌∷◌, ◌++◌, length, Some, None, Option}
-use Rattle.wire.specs.declared.kind.Kind.{Kind}
+use Rattle.std.specs.Prelude.{ℕ, ◌+◌, ◌/◌, ◌%◌, Bool, true, false, List, [], ◌∷◌, ◌++◌, Some, None, Option}
 use Rattle.wire.specs.declared.kind.Kind.TheVariants as kind
 use Rattle.wire.specs.declared.header.Ports.{Ports}
 use Rattle.wire.specs.declared.code.ErrorCode.{ErrorCode}
 use Rattle.wire.specs.declared.code.ReleaseCode.{ReleaseCode}
 use Rattle.wire.specs.Code.{error_number, release_number}
 use Rattle.wire.specs.Segment.{Numbers}
-use Rattle.wire.specs.Header.{Element, ports_kind, segment_kind, filled}
+use Rattle.wire.specs.Header.{Element, ports_kind, segment_kind}
 use Rattle.wire.specs.Format.{opening, header_of}
 
 -- destination and source port, high octet first

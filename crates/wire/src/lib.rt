@@ -1,4 +1,6 @@
 // The wire: what a PDU is, which octets it has, and which rules a string must keep to be read as one.
+#![tactic(auto)]
+
 pub mod code;
 pub mod header;
 pub mod kind;

@@ -1,4 +1,6 @@
 // How PDUs, faults, addresses and octets are told in words.
+#![tactic(auto)]
+
 pub mod address;
 pub mod dump;
 pub mod kind;

@@ -1,4 +1,6 @@
 // The writer: a PDU's octets at the head of the caller's buffer.
+#![tactic(auto)]
+
 mod buffer;
 mod header;
 pub mod payload;

@@ -4,7 +4,7 @@ ghost use Rattle.terms.specs.Buffer.{answer_of, left_in};
 ghost use Rattle.wire.specs.Format.{opening};
 ghost use Rattle.wire.specs.Segment.{numbers_of};
 ghost use Rattle.wire.specs.Back.{ReadsAs};
-ghost use Rattle.wire.specs.Written.{bodied, written as octets-of, ready, error_of, release_of};
+ghost use Rattle.wire.specs.Written.{bodied, written as octets_of, ready, error_of, release_of};
 ghost use Rattle.addresses.specs.Field.{field_of};
 ghost use Rattle.writer.specs.Payload.{data_message, long_message};
 
@@ -57,8 +57,8 @@ fn write_bodied(
 
 fn put_data(first: u8, payload: Payload<'_>, out: &mut [u8]) -> Result<usize, Refusal>
     requires { first ≡ opening Kind.Data payload.more }
-    ensures answer { result ≡ answer_of (octets-of (data_message payload.entry)) out.old }
-    ensures after { out.new ≡ left_in (octets-of (data_message payload.entry)) out.old }
+    ensures answer { result ≡ answer_of (octets_of (data_message payload.entry)) out.old }
+    ensures after { out.new ≡ left_in (octets_of (data_message payload.entry)) out.old }
     ensures back { ReadsAs (data_message payload.entry) result out.new }
 {
     write_bodied(
@@ -78,8 +78,8 @@ fn put_data_long(
     out: &mut [u8],
 ) -> Result<usize, Refusal>
     requires { first ≡ opening Kind.DataLong payload.more }
-    ensures answer { result ≡ answer_of (octets-of (long_message (field_of address.now) payload.entry)) out.old }
-    ensures after { out.new ≡ left_in (octets-of (long_message (field_of address.now) payload.entry)) out.old }
+    ensures answer { result ≡ answer_of (octets_of (long_message (field_of address.now) payload.entry)) out.old }
+    ensures after { out.new ≡ left_in (octets_of (long_message (field_of address.now) payload.entry)) out.old }
     ensures back { ReadsAs (long_message (field_of address.now) payload.entry) result out.new }
 {
     write_bodied(
@@ -94,8 +94,8 @@ fn put_data_long(
 
 fn put_error(first: u8, code: ErrorCode, out: &mut [u8]) -> Result<usize, Refusal>
     requires { first ≡ opening Kind.Error false }
-    ensures answer { result ≡ answer_of (octets-of (error_of code)) out.old }
-    ensures after { out.new ≡ left_in (octets-of (error_of code)) out.old }
+    ensures answer { result ≡ answer_of (octets_of (error_of code)) out.old }
+    ensures after { out.new ≡ left_in (octets_of (error_of code)) out.old }
     ensures back { ReadsAs (error_of code) result out.new }
 {
     write_all(out, &[first, code.number()])
@@ -103,8 +103,8 @@ fn put_error(first: u8, code: ErrorCode, out: &mut [u8]) -> Result<usize, Refusa
 
 fn put_release(first: u8, code: ReleaseCode, out: &mut [u8]) -> Result<usize, Refusal>
     requires { first ≡ opening Kind.Release false }
-    ensures answer { result ≡ answer_of (octets-of (release_of code)) out.old }
-    ensures after { out.new ≡ left_in (octets-of (release_of code)) out.old }
+    ensures answer { result ≡ answer_of (octets_of (release_of code)) out.old }
+    ensures after { out.new ≡ left_in (octets_of (release_of code)) out.old }
     ensures back { ReadsAs (release_of code) result out.new }
 {
     write_all(out, &[first, code.number()])
@@ -114,8 +114,8 @@ fn put_release(first: u8, code: ReleaseCode, out: &mut [u8]) -> Result<usize, Re
 // that is too small is refused and left as it was. Whoever reads the octets that were told has the PDU that was given.
 
 pub fn write_data(payload: Payload<'_>, out: &mut [u8]) -> Result<usize, Refusal>
-    ensures answer { result ≡ answer_of (octets-of (data_message payload.entry)) out.old }
-    ensures after { out.new ≡ left_in (octets-of (data_message payload.entry)) out.old }
+    ensures answer { result ≡ answer_of (octets_of (data_message payload.entry)) out.old }
+    ensures after { out.new ≡ left_in (octets_of (data_message payload.entry)) out.old }
     ensures back { ReadsAs (data_message payload.entry) result out.new }
 {
     put_data(first_octet(Kind::Data, payload.more), payload, out)
@@ -126,8 +126,8 @@ pub fn write_data_long(
     payload: Payload<'_>,
     out: &mut [u8],
 ) -> Result<usize, Refusal>
-    ensures answer { result ≡ answer_of (octets-of (long_message (field_of address.now) payload.entry)) out.old }
-    ensures after { out.new ≡ left_in (octets-of (long_message (field_of address.now) payload.entry)) out.old }
+    ensures answer { result ≡ answer_of (octets_of (long_message (field_of address.now) payload.entry)) out.old }
+    ensures after { out.new ≡ left_in (octets_of (long_message (field_of address.now) payload.entry)) out.old }
     ensures back { ReadsAs (long_message (field_of address.now) payload.entry) result out.new }
 {
     put_data_long(
@@ -139,24 +139,24 @@ pub fn write_data_long(
 }
 
 pub fn write_ready(out: &mut [u8]) -> Result<usize, Refusal>
-    ensures answer { result ≡ answer_of (octets-of ready) out.old }
-    ensures after { out.new ≡ left_in (octets-of ready) out.old }
+    ensures answer { result ≡ answer_of (octets_of ready) out.old }
+    ensures after { out.new ≡ left_in (octets_of ready) out.old }
     ensures back { ReadsAs ready result out.new }
 {
     write_all(out, &[first_octet(Kind::Ready, false)])
 }
 
 pub fn write_error(code: ErrorCode, out: &mut [u8]) -> Result<usize, Refusal>
-    ensures answer { result ≡ answer_of (octets-of (error_of code)) out.old }
-    ensures after { out.new ≡ left_in (octets-of (error_of code)) out.old }
+    ensures answer { result ≡ answer_of (octets_of (error_of code)) out.old }
+    ensures after { out.new ≡ left_in (octets_of (error_of code)) out.old }
     ensures back { ReadsAs (error_of code) result out.new }
 {
     put_error(first_octet(Kind::Error, false), code, out)
 }
 
 pub fn write_release(code: ReleaseCode, out: &mut [u8]) -> Result<usize, Refusal>
-    ensures answer { result ≡ answer_of (octets-of (release_of code)) out.old }
-    ensures after { out.new ≡ left_in (octets-of (release_of code)) out.old }
+    ensures answer { result ≡ answer_of (octets_of (release_of code)) out.old }
+    ensures after { out.new ≡ left_in (octets_of (release_of code)) out.old }
     ensures back { ReadsAs (release_of code) result out.new }
 {
     put_release(first_octet(Kind::Release, false), code, out)

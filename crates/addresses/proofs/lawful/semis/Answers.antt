@@ -10,4 +10,4 @@ returns c =
 pub loop-rest-preserved : goal.loop-rest-preserved
 loop-rest-preserved c =
     let h : 1 ≤ length c.loop-rest.rest.now = search rules in
-    two_more_at c.loop-rest.left c.saturating-sub-left.result c.loop-rest.rest.now c.saturating-sub-left.ensures h c.if-not-pair.ensures ∙ c.loop-rest.invariant
+    two_more_at c.loop-rest.left c.saturating_sub-left.result c.loop-rest.rest.now c.saturating_sub-left.ensures h c.if-not-pair.ensures ∙ c.loop-rest.invariant

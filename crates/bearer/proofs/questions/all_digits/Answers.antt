@@ -1,4 +1,4 @@
-use Rattle.std.proofs.Common.{◌≡◌, true, false, leb, get_or, refl, arith}
+use Rattle.std.proofs.Common.{◌≡◌, true, false, get_or, refl, arith}
 use Rattle.std.proofs.lemmas.Bool.Decides.{nat_tests}
 use Rattle.bearer.specs.Meaning.{digit, digits}
 use Rattle.terms.proofs.Every.{every_yes, every_no, every_end}

@@ -9,6 +9,6 @@ loop-rest-preserved c =
     let rest = c.loop-rest.rest.now in
     let h : 2 ≤ length rest = search rules in
     ap (λ v. vec_items c.push.new.self ++ paired v) (take_rest rest 2)
-    ∙ ap (λ v. v ++ paired (drop 2 rest)) c.in-ok-push.ensures.items
+    ∙ ap (λ v. v ++ paired (drop 2 rest)) c.in_ok-push.ensures.items
     ∙ pair_more (vec_items c.loop-rest.all) rest c.value.result c.value-in-len2-up.result h c.value.ensures.same c.value-in-len2-up.ensures.same
     ∙ c.loop-rest.invariant

@@ -8,7 +8,7 @@ pub returns-then-half : goal.returns-then-half
 returns-then-half c =
     let rest = c.loop-rest.rest.now in
     let h : 1 ≤ length rest = search rules in
-    c.is-blank.ensures ∙ ap (λ v. all_empty (groups v)) (take_rest rest 1) ∙ from_half c.loop-rest.half rest h c.if-c-ne32.false c.if-half.true ∙ c.loop-rest.invariant
+    c.is_blank.ensures ∙ ap (λ v. all_empty (groups v)) (take_rest rest 1) ∙ from_half c.loop-rest.half rest h c.if-c-ne32.false c.if-half.true ∙ c.loop-rest.invariant
 
 pub loop-rest-preserved-then-c-ne32 : goal.loop-rest-preserved-then-c-ne32
 loop-rest-preserved-then-c-ne32 c =

@@ -5,4 +5,4 @@ use Rattle.hex_text.proofs.digits.is_hex.Goals as goal
 pub loop-rest-preserved : goal.loop-rest-preserved
 loop-rest-preserved c =
     let h : 2 ≤ length c.loop-rest.rest.now = search rules in
-    hex_more c.loop-rest.rest.now h c.if-not-is-digit.ensures c.if-not-is-digit-2.ensures ∙ c.loop-rest.invariant
+    hex_more c.loop-rest.rest.now h c.if-not-is_digit.ensures c.if-not-is_digit-2.ensures ∙ c.loop-rest.invariant

@@ -1,4 +1,4 @@
-use Rattle.std.proofs.Common.{◌≡◌, ◌*◌, ◌<◌, ◌≤◌, ◌++◌, length, drop, sym, ap, ◌∙◌, arith}
+use Rattle.std.proofs.Common.{◌*◌, ◌<◌, ◌≤◌, ◌++◌, length, drop, sym, ap, ◌∙◌, arith}
 use Rattle.terms.proofs.Buffers.{too_small, room}
 use Rattle.hex_text.specs.Hex.{hex_of}
 use Rattle.hex_text.proofs.Hexes.{hex_length}

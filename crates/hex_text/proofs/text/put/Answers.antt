@@ -1,4 +1,4 @@
-use Rattle.std.proofs.Common.{◌+◌, ◌*◌, ◌<◌, ◌≤◌, length, arith}
+use Rattle.std.proofs.Common.{◌+◌, ◌*◌, ◌<◌, length, arith}
 use Rattle.hex_text.proofs.Hexes.{put_more, put_all}
 use Rattle.hex_text.proofs.text.put.Goals as goal
 

@@ -1,4 +1,4 @@
-use Rattle.std.proofs.Common.{◌≡◌, ◌+◌, length, drop}
+use Rattle.std.proofs.Common.{◌≡◌, ◌+◌, drop}
 use Rattle.lines.specs.Frame.{run}
 use Rattle.lines.proofs.frame.digit_run.Given as goal
 

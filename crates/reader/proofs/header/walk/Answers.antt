@@ -1,8 +1,8 @@
-use Rattle.std.proofs.Common.{◌≡◌, ◌+◌, ◌-◌, ◌≤◌, length, get_or, take, drop, refl, ap, ◌∙◌, arith, length-drop, rules}
+use Rattle.std.proofs.Common.{◌-◌, ◌≤◌, length, get_or, take, drop, refl, ap, ◌∙◌, arith, length-drop, rules}
 use Rattle.std.proofs.lemmas.List.{take_rest}
 use Rattle.wire.proofs.Walks.{one_more_at, found_is}
 use Rattle.terms.specs.Question.{told}
-use Rattle.wire.specs.Header.{elements_in, questions_on, found_in}
+use Rattle.wire.specs.Header.{elements_in, questions_on}
 use Rattle.reader.proofs.header.walk.Goals as goal
 
 pub elements-preserved : goal.elements-preserved

@@ -1,4 +1,3 @@
-use Rattle.std.proofs.Common.{rules}
 use Rattle.wire.proofs.Readings.{field_no, field_yes, field_within}
 use Rattle.reader.proofs.pdu.address_size.Goals as goal
 

@@ -5,6 +5,6 @@ use Rattle.reader.proofs.pdu.read.Goals as goal
 
 pub returns : goal.returns
 returns c =
-    let e = c.by-kind.ensures in
+    let e = c.by_kind.ensures in
     let xs = c.args.s.now in
-    record { answer = e; sound = sound_at c.by-kind.result xs e; complete = λ p s. e ∙ complete xs p s }
+    record { answer = e; sound = sound_at c.by_kind.result xs e; complete = λ p s. e ∙ complete xs p s }

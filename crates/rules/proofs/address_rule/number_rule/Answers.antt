@@ -12,4 +12,4 @@ returns c =
     let a : 1 ≤ get_or xs 0 0 = search rules in
     let k : number_type_fine (get_or xs 1 0) ≡ true =
     elim c.else-kind.branch [ else-kind-via-then-kind+else-kind-2 w ↦ grind (arith, nat_tests) | else-kind-via-else-kind w ↦ grind (arith, nat_tests) ] in
-    number_is xs c.digits-rule.result h a c.if-count-gt20.false c.if-digits-count.false k c.digits-rule.ensures
+    number_is xs c.digits_rule.result h a c.if-count-gt20.false c.if-digits-count.false k c.digits_rule.ensures

@@ -6,4 +6,4 @@ pub returns : goal.returns
 returns c =
     let xs = c.args.rest.now in
     let h : 2 ≤ length xs = search rules in
-    element_is xs c.content-rule.result h c.if-n-tail.false c.content-rule.ensures.first
+    element_is xs c.content_rule.result h c.if-n-tail.false c.content_rule.ensures.first

@@ -11,6 +11,6 @@ returns c =
     let before = vec_items c.args.all.now in
     let after = vec_items c.push.new.self in
     let h : at + 1 + get_or xs at 0 ≤ length xs = omega arith in
-    IfOk-weaker c.element-steps.result _ _
-    (λ x e. header_yes at c.args.until xs (seen_steps before) (seen_steps after) (seen_steps (vec_items c.element-steps.new.all)) h (one before after _ c.in-ok-push.ensures.items) e)
-    c.element-steps.ensures
+    IfOk-weaker c.element_steps.result _ _
+    (λ x e. header_yes at c.args.until xs (seen_steps before) (seen_steps after) (seen_steps (vec_items c.element_steps.new.all)) h (one before after _ c.in_ok-push.ensures.items) e)
+    c.element_steps.ensures

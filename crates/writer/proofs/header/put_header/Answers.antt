@@ -1,4 +1,4 @@
-use Rattle.std.proofs.Common.{◌≡◌, sym, ap, ◌∙◌, rules}
+use Rattle.std.proofs.Common.{sym, ap, ◌∙◌}
 use Rattle.terms.specs.Buffer.{laid}
 use Rattle.std.specs.Option.{option_map}
 use Rattle.wire.specs.Segment.{numbers_of}

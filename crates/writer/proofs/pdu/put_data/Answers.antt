@@ -12,5 +12,5 @@ returns c =
     let q = c.args.payload in
     let s = option_map numbers_of q.segment in
     let x = ap (λ f. bodied f [] q.ports s q.user.now) c.requires in
-    let p = writes (data_message c.args.payload) _ c.args.out.now _ _ (segment_lawful c.args.payload.segment) x c.write-bodied.ensures.answer c.write-bodied.ensures.after in
+    let p = writes (data_message c.args.payload) _ c.args.out.now _ _ (segment_lawful c.args.payload.segment) x c.write_bodied.ensures.answer c.write_bodied.ensures.after in
     record { answer = p.answer; after = p.after; back = p.back }

@@ -14,6 +14,6 @@ pub returns : goal.returns
 returns c =
     let q = c.args.payload in
     let s = option_map numbers_of q.segment in
-    let x = ap (λ f. bodied f c.as-slice.result.now q.ports s q.user.now) c.requires ∙ ap (λ a. bodied (opening DataLong q.more) a q.ports s q.user.now) c.as-slice.ensures in
-    let p = writes (long_message (field_of c.args.address.now) c.args.payload) _ c.args.out.now _ _ ((c.args.address.now.lawful, segment_lawful c.args.payload.segment)) x c.write-bodied.ensures.answer c.write-bodied.ensures.after in
+    let x = ap (λ f. bodied f c.as_slice.result.now q.ports s q.user.now) c.requires ∙ ap (λ a. bodied (opening DataLong q.more) a q.ports s q.user.now) c.as_slice.ensures in
+    let p = writes (long_message (field_of c.args.address.now) c.args.payload) _ c.args.out.now _ _ ((c.args.address.now.lawful, segment_lawful c.args.payload.segment)) x c.write_bodied.ensures.answer c.write_bodied.ensures.after in
     record { answer = p.answer; after = p.after; back = p.back }

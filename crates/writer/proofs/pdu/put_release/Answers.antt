@@ -6,5 +6,5 @@ use Rattle.writer.proofs.pdu.put_release.Goals as goal
 pub returns : goal.returns
 returns c =
     let x = ap (λ f. f ∷ c.number.result ∷ []) c.requires ∙ ap (λ n. 10 ∷ n ∷ []) c.number.ensures in
-    let p = writes (release_of c.args.code) _ c.args.out.now _ _ tt x c.write-all.ensures.answer c.write-all.ensures.after in
+    let p = writes (release_of c.args.code) _ c.args.out.now _ _ tt x c.write_all.ensures.answer c.write_all.ensures.after in
     record { answer = p.answer; after = p.after; back = p.back }

@@ -1,7 +1,7 @@
-use Rattle.std.proofs.Common.{◌≡◌, ◌-◌, take, replicate, Some, ap, ◌∙◌}
-use Rattle.bearer.specs.Meaning.{text_of, over, string_in, code_in}
+use Rattle.std.proofs.Common.{◌-◌, take, replicate, Some, ap, ◌∙◌}
+use Rattle.bearer.specs.Meaning.{text_of, over}
 use Rattle.bearer.specs.Side.{highest_octet}
-use Rattle.lines.specs.State.{heard_of, opens, place_in}
+use Rattle.lines.specs.State.{heard_of}
 use Rattle.lines.proofs.Reading.{read_part}
 use Rattle.lines.proofs.state.Carrier.bare.Goals as goal
 

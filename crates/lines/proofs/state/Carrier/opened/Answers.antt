@@ -1,7 +1,7 @@
-use Rattle.std.proofs.Common.{◌≡◌, ◌-◌, take, replicate, Some, ap, ◌∙◌}
+use Rattle.std.proofs.Common.{◌-◌, take, replicate, Some, ap, ◌∙◌}
 use Rattle.bearer.specs.Meaning.{text_of, over, string_in, code_in}
 use Rattle.bearer.specs.Side.{highest_octet}
-use Rattle.lines.specs.State.{heard_of, opens, place_in}
+use Rattle.lines.specs.State.{opens}
 use Rattle.lines.proofs.Reading.{read_part}
 use Rattle.lines.proofs.state.Carrier.opened.Goals as goal
 
@@ -12,7 +12,7 @@ returns g c =
     let string = take (c.in-Some.n - 0) c.read.new.out in
     let w = read_part _ c.in-Some.n (replicate 160 0) c.read.new.out c.in-Some.ensures.answer c.read.ensures.copied ∙ ap (λ p. g.L.Line.read_as p (g.L.Line.held b.line)) c.place.ensures in
     record {
-      code = c.hear-opening.ensures.code ∙ ap (λ k. code_in (opens k (Some string))) c.octet.ensures ∙ ap (λ o. code_in (opens h o)) w;
-      answer = c.hear-opening.ensures.answer ∙ ap (λ k. text_of (string_in (opens k (Some string)))) c.octet.ensures ∙ ap (λ o. text_of (string_in (opens h o))) w;
-      copied = c.hear-opening.ensures.copied ∙ ap (λ k. over (string_in (opens k (Some string))) c.args.out.now) c.octet.ensures ∙ ap (λ o. over (string_in (opens h o)) c.args.out.now) w;
+      code = c.hear_opening.ensures.code ∙ ap (λ k. code_in (opens k (Some string))) c.octet.ensures ∙ ap (λ o. code_in (opens h o)) w;
+      answer = c.hear_opening.ensures.answer ∙ ap (λ k. text_of (string_in (opens k (Some string)))) c.octet.ensures ∙ ap (λ o. text_of (string_in (opens h o))) w;
+      copied = c.hear_opening.ensures.copied ∙ ap (λ k. over (string_in (opens k (Some string))) c.args.out.now) c.octet.ensures ∙ ap (λ o. over (string_in (opens h o)) c.args.out.now) w;
     }

@@ -1,4 +1,4 @@
-use Rattle.std.proofs.Common.{◌≡◌, ◌≤◌, true, length, Some, sym, ap, ◌∙◌, arith}
+use Rattle.std.proofs.Common.{◌≡◌, ◌≤◌, length, sym, ap, ◌∙◌, arith}
 use Rattle.bearer.specs.Side.{other, highest_octet}
 use Rattle.bearer.specs.Meaning.{open_with, under_way, octets, with_dialogue, code_octets}
 use Rattle.lines.specs.declared.state.Phase.TheVariants.{UnderWay}
@@ -16,7 +16,7 @@ returns g c =
     let xs = c.args.octets.now in
     let to = other c.args.side in
     let long : length xs ≤ 160 = omega arith in
-    let moved = c.gives-from.ensures in
+    let moved = c.gives_from.ensures in
     let new = l.held c.write.new.self in
     let p = c.place-place.result in
     let at : p ≡ place_in (UnderWay to) b.number = c.place-place.ensures ∙ ap (λ v. place_in v.phase v.number) moved in

@@ -8,16 +8,16 @@ returns c =
     let n = c.args.self.now.len in
     let xs = c.args.self.now.octets in
     let ys = c.args.xs.now in
-    let same = c.copy-from-slice.ensures.after in
+    let same = c.copy_from_slice.ensures.after in
     let within : n ≤ length xs = search rules in
-    let e = take-put_mid n (n + length ys - n) xs c.copy-from-slice.new.self (n + length ys) (omega (arith, ap length same)) within ∙ ap (λ z. take n xs ++ z) same in
+    let e = take-put_mid n (n + length ys - n) xs c.copy_from_slice.new.self (n + length ys) (omega (arith, ap length same)) within ∙ ap (λ z. take n xs ++ z) same in
     record { octets = e; len = ap length e ∙ length-append (take n xs) ys }
 
-pub invariant-of-self : goal.invariant-of-self
-invariant-of-self c =
+pub invariant_of-self : goal.invariant_of-self
+invariant_of-self c =
     let n = c.args.self.now.len in
     let xs = c.args.self.now.octets in
     let ys = c.args.xs.now in
     let z : n + length ys - n ≡ length ys = omega arith in
     let within : n + length ys ≤ length xs = search rules in
-    (ap length (put_is n _ xs _ ys z c.copy-from-slice.ensures.after) ∙ laid_length n ys xs within ∙ c.args.self.now.full, (search rules, tt))
+    record { full = ap length (put_is n _ xs _ ys z c.copy_from_slice.ensures.after) ∙ laid_length n ys xs within ∙ c.args.self.now.full; within = search rules }

@@ -1,4 +1,4 @@
-use Rattle.std.proofs.Common.{◌≡◌, ℕ, ◌+◌, ◌<◌, List, [], ◌∷◌, ◌++◌, length, get_or, take, set, ap, ◌∙◌, arith, length-append, length-set, get_or-set_same, rules}
+use Rattle.std.proofs.Common.{◌≡◌, ℕ, ◌+◌, ◌<◌, List, [], ◌∷◌, ◌++◌, length, take, set, ap, ◌∙◌, arith, length-append, length-set, get_or-set_same, rules}
 use Rattle.std.proofs.lemmas.List.{take_more, take-set}
 use Rattle.lines.proofs.ussd.Ussd.push.Goals as goal
 
