@@ -1,0 +1,57 @@
+-- Hex keeps the law of a coding.
+use Rattle.std.specs.Prelude.{◌≡◌, ℕ, ◌*◌, ◌/◌, ◌%◌, ◌<◌, ◌≤◌, Bool, true, false, cond, ◌&&◌, List, [], ◌∷◌, Some, None, refl}
+use Rattle.std.proofs.Common.{subst, arith}
+use Rattle.std.proofs.lemmas.Bool.{and_parts}
+use Rattle.std.proofs.lemmas.Bool.Decides.{nat_tests}
+use Rattle.coding.specs.Coding.{AtMost, Octets, Lawful}
+use Rattle.hex_text.specs.Hex.{digit_of, hex_of, is_digit, value_of, is_hex, octets_in, unhex}
+use Rattle.hex_text.proofs.Hexes.{hex_length}
+use Rattle.hex_text.proofs.Laws.{Octets as Below256, hex_back, hex_only}
+
+-- how many characters so many octets have
+abbrev pub size : ℕ → ℕ
+size n = 2 * n
+
+below_256 : (xs : List ℕ) → Octets xs → Below256 xs
+below_256 [] o = tt
+below_256 (x ∷ xs) o = (omega (arith, o.0), below_256 xs o.1)
+
+value_small : (c : ℕ) → is_digit c ≡ true → value_of c < 16
+value_small c h = grind (arith, nat_tests)
+
+octets_in_lem : (ys : List ℕ) → is_hex ys ≡ true → Octets (octets_in ys)
+octets_in_lem [] e = tt
+octets_in_lem (c ∷ []) e = tt
+octets_in_lem (c ∷ d ∷ cs) e =
+    let p = and_parts (is_digit c && is_digit d) (is_hex cs) e in
+    let q = and_parts (is_digit c) (is_digit d) p.0 in
+    (omega (arith, value_small c q.0, value_small d q.1), octets_in_lem cs p.1)
+
+octets_by : (b : Bool) (xs zs : List ℕ) → (b ≡ true → Octets zs) → cond b (Some zs) None ≡ Some xs → Octets xs
+octets_by true xs zs h e =
+    let z : zs ≡ xs = cc in
+    subst Octets z (h refl)
+octets_by false xs zs h e = let z : ◌≡◌ {A = ℕ} 0 1 = cc in absurd (omega arith)
+
+only_octets : (ys xs : List ℕ) → unhex ys ≡ Some xs → Octets xs
+only_octets ys xs e = octets_by (is_hex ys) xs (octets_in ys) (octets_in_lem ys) e
+
+digit_low : (v : ℕ) → v < 16 → digit_of v ≤ 70
+digit_low v h = grind (arith, nat_tests)
+
+-- F is the highest character
+hex_low : (xs : List ℕ) → Octets xs → AtMost 70 (hex_of xs)
+hex_low [] o = tt
+hex_low (x ∷ xs) o = (digit_low (x / 16) (omega (arith, o.0)), (digit_low (x % 16) (omega arith), hex_low xs o.1))
+
+pub hex_lawful : Lawful 70 hex_of unhex size
+hex_lawful =
+    record {
+      small = omega arith;
+      back = λ xs o. hex_back xs (below_256 xs o);
+      only = λ ys xs e. (only_octets ys xs e, hex_only ys xs e);
+      sized = hex_length;
+      none = refl;
+      grows = λ n. omega arith;
+      below = hex_low;
+    }

@@ -1,0 +1,4 @@
+// Words of the program's arguments.
+#![tactic(auto)]
+
+pub mod pile;
