@@ -36,10 +36,22 @@ BY_HAND = {
     "take-asks": "take_asks_lem",
     "taken-by": "taken_by_lem",
     "getD-seam": "get_or_seam",
+    # names that an import gives
+    "framedAs": "framed_as",
+    "headAt": "head_at",
+    "heldOn": "held_on",
+    "laidOver": "laid_over",
+    "octets-of": "octets_of",
+    "readBack": "read_back",
+    "sameSide": "same_side",
+    "tailOf": "tail_of",
+    "the-body": "the_body",
+    "the-part": "the_part",
+    "the-pdu": "the_pdu",
 }
-# The functions of writer that would meet a constructor of wire, and a lemma of addresses that would meet its function.
+# What would meet a constructor or a definition of wire in writer, and a lemma of addresses that would meet its function.
 IN_CRATE = {
-    "writer": {"data_of": "data_message", "longOf": "long_message"},
+    "writer": {"data_of": "data_message", "longOf": "long_message", "header_of": "header_octets"},
     "addresses": {"is_field": "is_field_lem"},
 }
 # Crates whose name a library of the kit has.
