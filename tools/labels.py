@@ -4,7 +4,8 @@
 usage: tools/labels.py CRATE..      at the top of the repository, after spell.py
 
 A label is a word behind a dot, or a name that an answer declares, in proofs/F/Answers.antt and Invariants.antt: as
-returns-then-not-is-low, now returns-then-not-is_low. Names come from the code of all crates.
+returns-then-not-is-low, now returns-then-not-is_low, or a way into a join that a `use` of Goals names. Words come from the code of
+all crates.
 """
 
 import os
@@ -13,6 +14,8 @@ import sys
 
 SNAKE = re.compile(r"\b[a-z][a-z0-9]*(?:_[a-z0-9]+)+\b")
 FILES = ("Answers.antt", "Invariants.antt")
+# Words of labels that stand in no source.
+MADE = ("invariant_of", "in_err", "in_ok", "in_default", "from_residual")
 
 
 def walk(top, kind):
@@ -24,7 +27,7 @@ def walk(top, kind):
 
 
 def main(crates):
-    words = {"invariant_of", "copy_from_slice", "split_at", "type_inv", "in_err", "in_ok", "in_default", "from_residual", "as_str", "is_empty", "as_bytes", "as_slice", "push_str", "split_first", "split_last", "from_utf8", "is_some", "is_none", "map_err", "ok_or", "get_or", "to_owned", "extend_from_slice", "read_until", "read_line", "write_all", "strip_prefix", "from_u8", "to_digit", "is_ascii_digit", "checked_mul", "checked_add", "parse_u32"}
+    words = set(MADE)
     for path in walk("crates", ".rt"):
         with open(path, encoding="utf-8") as f:
             text = re.sub(r"ghost use [^;]*;", "", f.read())
@@ -44,7 +47,10 @@ def main(crates):
                 text = f.read()
             out = []
             for line in text.splitlines(keepends=True):
-                if not line.startswith("use "):
+                if line.startswith("use ") and ".Goals.{" in line:
+                    head, names = line.split(".Goals.{", 1)
+                    line = head + ".Goals.{" + label(names)
+                elif not line.startswith("use "):
                     line = re.sub(r"(?<=\.)[a-z][\w'-]*", lambda m: label(m[0]), line)
                     line = re.sub(r"^((?:abbrev )?(?:pub )?)([a-z][\w'-]*)", lambda m: m[1] + label(m[2]), line)
                 out.append(line)

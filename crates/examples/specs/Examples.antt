@@ -40,8 +40,8 @@ pub record Examples : Type 0 where
       ≡ Ok (long_of false (record { place = 1; octets = ipv4_field ten }) (record { header = 6; ports = record { to = 9201; from = 49152 }; segment = None; user = record { place = 13; octets = okay } }))
   pub long_written : sent.written (sent.long_of false (ipv4_field ten) (record { to = 9201; from = 49152 }) None okay) ≡ to_ten
   pub number_text : lawful_text (codes "46123") ≡ true
-  pub number_field_lem : number_field International (digits_of (codes "46123")) ≡ number
-  pub number_fine_lem : address_fine number ≡ true
+  pub number_octets : number_field International (digits_of (codes "46123")) ≡ number
+  pub number_passes : address_fine number ≡ true
   pub empty : reading [] ≡ faulty 41 0
   pub version : reading (0x20 ∷ []) ≡ faulty 43 0
   pub opening_stands : stands_as Mobile (codes "138") to_ten ≡ opening

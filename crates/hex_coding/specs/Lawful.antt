@@ -4,9 +4,9 @@ use Rattle.std.proofs.Common.{subst, arith}
 use Rattle.std.proofs.lemmas.Bool.{and_parts}
 use Rattle.std.proofs.lemmas.Bool.Decides.{nat_tests}
 use Rattle.coding.specs.Coding.{AtMost, Octets, Lawful}
-use Rattle.hex_text.specs.Hex.{digit_of, hex_of, is_digit, value_of, is_hex, octets_in, unhex}
+use Rattle.hex_text.specs.Hex.{digit_of, hex_of, is_digit, is_hex, octets_in, unhex}
 use Rattle.hex_text.proofs.Hexes.{hex_length}
-use Rattle.hex_text.proofs.Laws.{Octets as Below256, hex_back, hex_only}
+use Rattle.hex_text.proofs.Laws.{Octets as Below256, value_small, hex_back, hex_only}
 
 -- how many characters so many octets have
 abbrev pub size : ℕ → ℕ
@@ -15,9 +15,6 @@ size n = 2 * n
 below_256 : (xs : List ℕ) → Octets xs → Below256 xs
 below_256 [] o = tt
 below_256 (x ∷ xs) o = (omega (arith, o.0), below_256 xs o.1)
-
-value_small : (c : ℕ) → is_digit c ≡ true → value_of c < 16
-value_small c h = grind (arith, nat_tests)
 
 octets_in_lem : (ys : List ℕ) → is_hex ys ≡ true → Octets (octets_in ys)
 octets_in_lem [] e = tt

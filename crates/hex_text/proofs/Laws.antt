@@ -18,7 +18,7 @@ digit_value v h = grind (arith, nat_tests)
 value_digit : (c : ℕ) → is_digit c ≡ true → digit_of (value_of c) ≡ c
 value_digit c h = grind (arith, nat_tests)
 
-value_small : (c : ℕ) → is_digit c ≡ true → value_of c < 16
+pub value_small : (c : ℕ) → is_digit c ≡ true → value_of c < 16
 value_small c h = grind (arith, nat_tests)
 
 pub hex_is : (xs : List ℕ) → Octets xs → is_hex (hex_of xs) ≡ true
