@@ -1,5 +1,6 @@
-use Rattle.std.specs.Prelude.{ℕ, ◌+◌, ◌*◌, ◌/◌, Bool, ◌&&◌, List, ◌∷◌, length, take, drop, Ok, Err, Result, ◌==◌, slice_index}
+use Rattle.std.specs.Prelude.{ℕ, ◌+◌, ◌*◌, ◌/◌, Bool, ◌&&◌, List, ◌∷◌, length, drop, Ok, Err, Result, ◌==◌, slice_index}
 use Rattle.terms.specs.declared.refusal.Refusal.{Refusal}
+use Rattle.terms.specs.Octets.{octets_of}
 use Rattle.wire.specs.declared.kind.AddressKind.TheVariants.{Ipv4, Ipv6}
 use Rattle.wire.specs.Kind.{address_kind_number}
 use Rattle.wire.specs.Address.{content_size, content_fine}
@@ -7,7 +8,7 @@ use Rattle.addresses.specs.declared.field.AddressField.{AddressField}
 
 -- the octets of an address field
 abbrev pub field_of : AddressField → List ℕ
-field_of f = take f.len f.octets
+field_of f = octets_of f.octets
 
 abbrev pub field_told : Result AddressField Refusal → Result (List ℕ) Refusal
 field_told (Ok f) = Ok (field_of f)

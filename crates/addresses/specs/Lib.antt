@@ -1,1 +1,3 @@
+pub mod AddressRules
 pub mod Field
+pub mod HalfWords

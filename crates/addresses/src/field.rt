@@ -1,12 +1,11 @@
-ghost use Rattle.std.specs.Prelude.{◌≡◌, ◌≤◌, length, take};
+ghost use Rattle.terms.specs.Octets.{octets_of};
 ghost use Rattle.wire.specs.Address.{LawfulField};
+
+use terms::octets::Octets;
 
 // An address field: only lawful octets can be held. The longest, of an IPv6 address, has 17.
 #[derive(Clone, Copy)]
 pub struct AddressField {
-    pub octets: [u8; 17],
-    pub len: usize,
-    ghost full: { length octets ≡ 17 },
-    ghost within: { len ≤ 17 },
-    ghost lawful: { LawfulField (take len octets) },
+    pub(crate) octets: Octets<17>,
+    ghost lawful: { LawfulField (octets_of octets) },
 }

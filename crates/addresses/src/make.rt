@@ -1,48 +1,31 @@
-ghost use Rattle.std.specs.Prelude.{◌≡◌, ◌+◌, ◌<◌, ◌≤◌, true, [], ◌∷◌, length, take, if◌then◌else◌, Some, None};
+ghost use Rattle.std.specs.Prelude.{◌≡◌, ◌+◌, ◌*◌, ◌<◌, ◌≤◌, true, [], ◌∷◌, length, if◌then◌else◌, Some, None};
 ghost use Rattle.std.specs.Option.{option_map};
 ghost use Rattle.terms.specs.Question.{told};
 ghost use Rattle.terms.specs.Refusal.{must};
-ghost use Rattle.wire.specs.Address.{LawfulField};
+ghost use Rattle.wire.specs.Address.{content_fine};
+ghost use Rattle.wire.specs.Kind.{address_kind_number};
 ghost use Rattle.wire.specs.Number.{lawful_text, digits_of, number_field};
 ghost use Rattle.addresses.specs.Field.{field_of, field_told, ipv4_field, ipv6_field, is_field};
 
 use crate::field::AddressField;
-use crate::lawful::content;
+use crate::lawful::size;
 use crate::number::{is_number, pair};
+use terms::octets::Octets;
 use terms::refusal::Refusal;
-use wire::kind::NumberType;
+use wire::kind::{AddressKind, NumberType};
 
-// An address octet with what follows it, at the head of an array.
-fn headed(head: u8, content: &[u8]) -> [u8; 17]
-    requires { length content.now ≤ 16 }
-    ensures field { take (1 + length content.now) result ≡ head ∷ content.now }
-    ensures full { length result ≡ 17 }
+// The field of an address, its address octet first.
+fn fixed(kind: AddressKind, content: &[u8]) -> AddressField
+    requires lawful { content_fine (address_kind_number kind) content.now ≡ true }
+    requires within { length content.now ≤ 16 }
+    ensures { field_of result ≡ (address_kind_number kind * 32 + length content.now) ∷ content.now }
 {
-    let mut octets = [0u8; 17];
-    octets[0] = head;
-    octets[1..1 + content.len()].copy_from_slice(content);
+    let mut octets = Octets::new();
     octets
-}
-
-// The field of an address octet and what follows it.
-fn fixed(head: u8, content: &[u8]) -> AddressField
-    requires { (LawfulField (head ∷ content.now)) × (length content.now ≤ 16) }
-    ensures { field_of result ≡ head ∷ content.now }
-{
-    AddressField {
-        octets: headed(head, content),
-        len: 1 + content.len(),
-    }
-}
-
-// Whether the octets are an address field, no more and no less.
-fn is_field(octets: &[u8]) -> bool
-    ensures { result ≡ is_field octets.now }
-{
-    if octets.len() < 1 {
-        return false;
-    }
-    octets.len() == 1 + octets[0] as usize % 32 && content(octets[0] / 32, &octets[1..])
+        .push(kind.number() * 32 + content.len() as u8)
+        .unwrap();
+    octets.append(content).unwrap();
+    AddressField { octets }
 }
 
 // A number of 1 to 20 digits, packed two to an octet.
@@ -51,37 +34,28 @@ fn number_field(digits: &[u8], kind: NumberType) -> AddressField
     ensures { field_of result ≡ number_field kind (digits_of digits.now) }
 {
     let half = (digits.len() + 1) / 2;
-    let mut octets = [0u8; 17];
-    octets[0] = (2 * 32 + 2 + half) as u8;
-    octets[1] = digits.len() as u8;
-    octets[2] = kind.octet();
-    for j in 0..half {
-        octets[3 + j] = pair(digits, 2 * j);
+    let head = AddressKind::Msisdn.number() * 32 + 2 + half as u8;
+    let mut octets = Octets::new();
+    octets
+        .append(&[head, digits.len() as u8, kind.octet()])
+        .unwrap();
+    for two in digits.chunks(2) {
+        octets.push(pair(two)).unwrap();
     }
-    AddressField {
-        octets,
-        len: 3 + half,
-    }
-}
-
-fn front(octets: &[u8; 17], n: usize) -> &[u8]
-    requires { n ≤ 17 }
-    ensures { result.now ≡ take n octets.now }
-{
-    &octets[0..n]
+    AddressField { octets }
 }
 
 impl AddressField {
     pub fn ipv4(address: [u8; 4]) -> AddressField
         ensures { field_of result ≡ ipv4_field address }
     {
-        fixed(0 * 32 + 4, &address)
+        fixed(AddressKind::Ipv4, &address)
     }
 
     pub fn ipv6(address: [u8; 16]) -> AddressField
         ensures { field_of result ≡ ipv6_field address }
     {
-        fixed(1 * 32 + 16, &address)
+        fixed(AddressKind::Ipv6, &address)
     }
 
     // The field of a number given as text; refused where the text is not 1 to 20 lawful characters.
@@ -99,16 +73,17 @@ impl AddressField {
     pub fn from_octets(octets: &[u8]) -> Option<AddressField>
         ensures { option_map field_of result ≡ (if is_field octets.now then Some octets.now else None) }
     {
-        if !is_field(octets) {
+        if size(octets) != Some(octets.len()) {
             return None;
         }
-        Some(fixed(octets[0], &octets[1..]))
+        let octets = Octets::of(octets).unwrap();
+        Some(AddressField { octets })
     }
 
     // Its octets, the address octet first.
     pub fn as_slice(&self) -> &[u8]
         ensures { result.now ≡ field_of self.now }
     {
-        front(&self.octets, self.len)
+        self.octets.as_slice()
     }
 }

@@ -1,12 +1,12 @@
-ghost use Rattle.std.specs.Prelude.{◌≡◌, ◌+◌, ◌*◌, ◌<◌, true, ◌∷◌, length, drop};
+ghost use Rattle.std.specs.Prelude.{◌≡◌, ◌+◌, ◌*◌, ◌<◌, ◌≤◌, true, [], ◌∷◌, length, is_some};
 ghost use Rattle.wire.specs.Number.{semi_of, digit_of, digits_of, all_digits, lawful_text, packed};
 
-// The semi-octet that a character of a number stands for.
+// The semi-octet that a character of a number stands for. No `TryFrom`: both types are std's.
 pub fn semi_octet(c: char) -> Option<u8>
     ensures { result ≡ semi_of c }
 {
     match c {
-        '0'..='9' => Some((c as u32 - '0' as u32) as u8),
+        '0'..='9' => Some(c as u8 - b'0'),
         '*' => Some(10),
         '#' => Some(11),
         'a' => Some(12),
@@ -19,26 +19,22 @@ pub fn semi_octet(c: char) -> Option<u8>
 fn all_digits(text: &[u8]) -> bool
     ensures { result ≡ all_digits text.now }
 {
-    for c in text {
-        if semi_octet(*c as char).is_none() {
-            return false;
-        }
-    }
-    true
+    text.iter().all(|c| semi_octet(*c as char).is_some())
 }
 
 // Whether the octets of a text are a number: 1 to 20 characters, each of which has a semi-octet.
 pub fn is_number(text: &[u8]) -> bool
     ensures { result ≡ lawful_text text.now }
 {
-    text.len() >= 1 && text.len() <= 20 && all_digits(text)
+    (1..=20).contains(&text.len()) && all_digits(text)
 }
 
 fn digit(c: u8) -> u8
+    requires { is_some (semi_of c) ≡ true }
     ensures value { result ≡ digit_of c }
     ensures small { result < 15 }
 {
-    semi_octet(c as char).unwrap_or(0)
+    semi_octet(c as char).unwrap()
 }
 
 // Two halves of an octet, the first digit in the low one.
@@ -49,14 +45,16 @@ fn halves(low: u8, high: u8) -> u8
     high * 16 + low
 }
 
-// The octet of the digits at `i` and behind it; 15 fills the high half beside an odd last digit.
-pub(crate) fn pair(text: &[u8], i: usize) -> u8
-    requires { i < length text.now }
-    ensures { packed (drop i (digits_of text.now)) ≡ result ∷ packed (drop (i + 2) (digits_of text.now)) }
+// The octet of two digits, or of one; 15 fills the high half beside an odd last digit.
+pub(crate) fn pair(digits: &[u8]) -> u8
+    requires some { 1 ≤ length digits.now }
+    requires few { length digits.now ≤ 2 }
+    requires lawful { all_digits digits.now ≡ true }
+    ensures { packed (digits_of digits.now) ≡ result ∷ [] }
 {
-    let low = digit(text[i]);
-    if i + 1 < text.len() {
-        return halves(low, digit(text[i + 1]));
+    match digits {
+        [low, high] => halves(digit(*low), digit(*high)),
+        [low] => halves(digit(*low), 15),
+        _ => unreachable!(),
     }
-    halves(low, 15)
 }

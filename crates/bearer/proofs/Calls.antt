@@ -6,7 +6,21 @@ use Rattle.terms.specs.declared.stop.Stop.{Stop}
 use Rattle.terms.specs.Question.{first_no, asked, told_of}
 use Rattle.terms.proofs.Questions.{refused_unless, done_unless}
 use Rattle.bearer.specs.declared.side.Side.{Side}
-use Rattle.bearer.specs.Meaning.{Meaning, String, garbled, octets, Within, text_of, heard_text, string_of, with_dialogue, open_with, turn, closed, code_of, open_questions, opens_next, open_answer, open_after, give_questions, gives_next, give_answer, give_after, take_questions, taken_by, heard, over, take_answer, take_place, take_after, close_questions, close_answer, close_after}
+use Rattle.bearer.specs.declared.told.Told.{Told}
+use Rattle.bearer.specs.Meaning.{Meaning, tells, open_asks, give_asks, take_asks, close_asks, String, garbled, octets, Within, text_of, heard_text, string_of, with_dialogue, open_with, turn, code_of, open_questions, opens_next, open_answer, open_after, give_questions, gives_next, give_answer, give_after, take_questions, taken_by, heard, over, take_answer, take_place, take_after, close_questions}
+
+-- the questions put to what a bearer tells of itself are those of the call
+pub asks_open : (side : Side) (code xs : List ℕ) (m : Meaning) (t : Told) → t ≡ tells m → asked (open_asks t.is_open t.longest t.highest t.number side code xs) ≡ asked (open_questions side code xs m)
+asks_open side code xs m t e = ap (λ v. asked (open_asks v.is_open v.longest v.highest v.number side code xs)) e
+
+pub asks_give : (side : Side) (xs : List ℕ) (m : Meaning) (t : Told) → t ≡ tells m → asked (give_asks t.is_open t.standing t.longest t.highest side xs) ≡ asked (give_questions side xs m)
+asks_give side xs m t e = ap (λ v. asked (give_asks v.is_open v.standing v.longest v.highest side xs)) e
+
+pub asks_take : (side : Side) (m : Meaning) (t : Told) → t ≡ tells m → asked (take_asks t.is_open t.standing side) ≡ asked (take_questions side m)
+asks_take side m t e = ap (λ v. asked (take_asks v.is_open v.standing side)) e
+
+pub asks_close : (m : Meaning) (t : Told) → t ≡ tells m → asked (close_asks t.is_open) ≡ asked (close_questions m)
+asks_close m t e = ap (λ v. asked (close_asks v.is_open)) e
 
 pub open_refused : (side : Side) (code xs : List ℕ) (m : Meaning) (r : Refusal) → Err r ≡ asked (open_questions side code xs m) → (Err r ≡ open_answer side code xs m) × (m ≡ open_after side code xs m)
 unfolding open_answer open_after
@@ -25,12 +39,12 @@ unfolding give_answer give_after
 give_done side xs m n e f = (e, f ∙ done_unless (give_questions side xs m) (tt {0}) (tt {0}) (gives_next side xs m) m e)
 
 refused_by_lem : (o : Option Refusal) (s : Option String) (r : Refusal) → Err r ≡ told_of o (tt {0}) → Err (Refused r) ≡ taken_by o s
-refused_by_lem None s r e = let z : ◌≡◌ {A = ℕ} 0 1 = cc in absurd (omega arith)
+refused_by_lem None s r e = cc
 refused_by_lem (Some q) s r e = let z : r ≡ q = cc in ap (λ v. Err (Refused v)) z
 
 taken_by_lem : (o : Option Refusal) (s : Option String) → Ok tt ≡ told_of o (tt {0}) → heard s ≡ taken_by o s
 taken_by_lem None s e = refl
-taken_by_lem (Some q) s e = let z : ◌≡◌ {A = ℕ} 0 1 = cc in absurd (omega arith)
+taken_by_lem (Some q) s e = cc
 
 abbrev pub turned : Side → Meaning → Meaning
 turned side m = with_dialogue m m.number (open_with (code_of m) (turn side))
@@ -60,14 +74,6 @@ take_done side place m r new n e a b f =
       after = f ∙ done_unless (take_questions side m) (tt {0}) (tt {0}) (turned side m) m e;
     }
 
-pub close_refused : (m : Meaning) (r : Refusal) → Err r ≡ asked (close_questions m) → (Err r ≡ close_answer m) × (m ≡ close_after m)
-unfolding close_answer close_after
-close_refused m r e = (e, refused_unless (close_questions m) r (tt {0}) (with_dialogue m m.number closed) m e)
-
-pub close_done : (m n : Meaning) → Ok tt ≡ asked (close_questions m) → n ≡ with_dialogue m m.number closed → (Ok tt ≡ close_answer m) × (n ≡ close_after m)
-unfolding close_answer close_after
-close_done m n e f = (e, f ∙ done_unless (close_questions m) (tt {0}) (tt {0}) (with_dialogue m m.number closed) m e)
-
 pub text_heard : (s : Option String) → heard_text (text_of s) ≡ heard s
 text_heard None = refl
 text_heard (Some garbled) = refl
@@ -76,7 +82,7 @@ text_heard (Some (octets xs)) = refl
 pub heard_short : (s : Option String) (l h : ℕ) → l ≤ 152 → Within l h s → IfOk (heard s) (λ n. n ≤ 152)
 heard_short None l h e w = omega arith
 heard_short (Some garbled) l h e w = tt
-heard_short (Some (octets xs)) l h e w = omega (arith, e, w.0)
+heard_short (Some (octets xs)) l h e w = omega (arith, w.0)
 
 pub made_err : {T E : Type 0} (P : T → Type 0) (r : Result T E) (y : E) → r ≡ Err y → IfOk r P
 made_err {T} {E} P r y e = let Q : Result T E → Type 0 = λ v. IfOk v P in subst Q (sym e) tt

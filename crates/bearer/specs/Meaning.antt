@@ -1,9 +1,12 @@
 -- What a bearer means, and what each call makes of it.
-use Rattle.std.specs.Prelude.{◌≡◌, ℕ, ◌+◌, ◌≤◌, Bool, true, false, not, ◌&&◌, List, [], ◌∷◌, ◌++◌, length, take, drop, Some, None, Ok, Err, Option, Result, ◌==◌, nat_le, nat_lt}
+use Rattle.std.specs.Prelude.{◌≡◌, ℕ, ◌+◌, ◌≤◌, Bool, true, false, not, ◌&&◌, List, [], ◌∷◌, ◌++◌, length, drop, Some, None, Ok, Err, Option, Result, ◌==◌, nat_le, nat_lt}
+use Rattle.std.specs.List.{list_all}
 use Rattle.terms.specs.declared.refusal.Refusal.{Refusal}
 use Rattle.terms.specs.declared.fault.Layer.TheVariants.{Bearer}
 use Rattle.terms.specs.declared.stop.Stop.{Stop}
 use Rattle.terms.specs.declared.stop.Stop.TheVariants.{Refused, Faulty}
+use Rattle.terms.specs.declared.octets.Octets.{Octets}
+use Rattle.terms.specs.Octets.{octets_of}
 use Rattle.terms.specs.Question.{Question, first_no, told, unless}
 use Rattle.terms.specs.Refusal.{must}
 use Rattle.terms.specs.Cause.{fault_of}
@@ -12,9 +15,8 @@ use Rattle.bearer.specs.declared.side.Side.TheVariants.{Mobile, Network}
 use Rattle.bearer.specs.declared.side.Standing.{Standing}
 use Rattle.bearer.specs.declared.side.Standing.TheVariants.{Closed, Turn, UnderWay}
 use Rattle.bearer.specs.declared.side.Highest.{Highest}
-use Rattle.bearer.specs.declared.side.Text.{Text}
-use Rattle.bearer.specs.declared.side.Text.TheVariants as text
-use Rattle.bearer.specs.declared.code.Code.{Code}
+use Rattle.bearer.specs.declared.heard.Garbled.{Garbled}
+use Rattle.bearer.specs.declared.told.Told.{Told}
 use Rattle.bearer.specs.Side.{other, same, highest_octet}
 
 -- a string under way: garbled, or octets
@@ -54,6 +56,10 @@ standing_in (open_with c (under_way s x)) = UnderWay s
 abbrev pub stand_of : Meaning → Standing
 stand_of m = standing_in m.dialogue
 
+-- what a bearer tells of itself
+abbrev pub tells : Meaning → Told
+tells m = record { is_open = is_open m; standing = stand_of m; number = m.number; longest = m.longest; highest = m.highest }
+
 abbrev pub code_in : Dialogue → List ℕ
 code_in closed = []
 code_in (open_with c s) = c
@@ -74,8 +80,7 @@ abbrev pub digit : ℕ → Bool
 digit x = nat_le 0x30 x && nat_le x 0x39
 
 abbrev pub digits : List ℕ → Bool
-digits [] = true
-digits (x ∷ xs) = digit x && digits xs
+digits xs = list_all (λ x. digit x) xs
 
 -- a mobile has a service code of two to four digits, a network none
 abbrev pub lawful_code : Side → List ℕ → Bool
@@ -84,8 +89,7 @@ lawful_code Network code = length code == 0
 
 -- no octet is above h
 abbrev pub low : ℕ → List ℕ → Bool
-low h [] = true
-low h (x ∷ xs) = nat_le x h && low h xs
+low h xs = list_all (λ x. nat_le x h) xs
 
 abbrev pub turn_is : Side → Standing → Bool
 turn_is side Closed = false
@@ -199,17 +203,24 @@ close_answer m = told (close_questions m) tt
 unfoldable pub close_after : Meaning → Meaning
 close_after m = unless (close_questions m) (with_dialogue m m.number closed) m
 
--- questions about the string under way and the code
-abbrev pub text_of : Option String → Option Text
+-- what is heard of a string: how many octets it has, if it is not garbled
+abbrev pub text_in : String → Result ℕ Garbled
+text_in garbled = Err (record {})
+text_in (octets xs) = Ok (length xs)
+
+-- and of the string under way
+abbrev pub text_of : Option String → Option (Result ℕ Garbled)
 text_of None = None
-text_of (Some garbled) = Some text.Garbled
-text_of (Some (octets xs)) = Some (text.Octets (length xs))
+text_of (Some x) = Some (text_in x)
 
 -- what a take answers of it
-abbrev pub heard_text : Option Text → Result ℕ Stop
-heard_text None = Ok 0
-heard_text (Some text.Garbled) = Err (Faulty (fault_of 40 0 Bearer))
-heard_text (Some (text.Octets n)) = Ok n
+abbrev pub garbled_stop : Stop
+garbled_stop = Faulty (fault_of 40 0 Bearer)
 
-abbrev pub code_octets : Code → List ℕ
-code_octets c = take c.len c.octets
+abbrev pub heard_text : Option (Result ℕ Garbled) → Result ℕ Stop
+heard_text None = Ok 0
+heard_text (Some (Err g)) = Err garbled_stop
+heard_text (Some (Ok n)) = Ok n
+
+abbrev pub code_octets : Octets 4 → List ℕ
+code_octets c = octets_of c

@@ -1,10 +1,5 @@
-ghost use Rattle.std.specs.Prelude.{◌≡◌, ◌≤◌, length};
+use terms::octets::Octets;
 
-// A service code of up to four digits; one of no digits stands for none.
-#[derive(Clone, Copy)]
-pub struct Code {
-    pub octets: [u8; 4],
-    pub len: usize,
-    ghost full: { length octets ≡ 4 },
-    ghost within: { len ≤ 4 },
-}
+// A service code of up to four digits; one of no digits stands for none. No `Option`: by the protocol a
+// network opens with the code of no digits, as a mobile does with its own.
+pub type Code = Octets<4>;

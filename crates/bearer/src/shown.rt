@@ -1,8 +1,10 @@
 ghost use Rattle.std.specs.Prelude.{◌≡◌, ◌≤◌, IfOk};
-ghost use Rattle.bearer.specs.Meaning.{Meaning, Figured, is_open, stand_of, code_of, string_of, open_answer, open_after, give_answer, give_after, take_answer, take_place, take_after, close_answer, close_after, text_of, over, code_octets};
+ghost use Rattle.bearer.specs.Meaning.{Meaning, Figured, is_open, stand_of, tells, code_of, string_of, open_answer, open_after, give_answer, give_after, take_answer, take_place, take_after, close_answer, close_after, text_of, over, code_octets};
 
 use crate::code::Code;
-use crate::side::{Highest, Side, Standing, Text};
+use crate::heard::Garbled;
+use crate::side::{Highest, Side, Standing};
+use crate::told::Told;
 use terms::refusal::Refusal;
 use terms::stop::Stop;
 
@@ -11,7 +13,8 @@ use terms::stop::Stop;
 pub trait Bearer {
     ghost meaning: { Self → Meaning };
 
-    // Begins a dialogue: the number rises by one, and the octets are under way to the other side.
+    // Begins a dialogue: the number rises by one, and the octets are under way to the other side. Side, code and octets stay three
+    // arguments: a struct of them would be made for this call and taken apart by it.
     fn open(&mut self, side: Side, code: &[u8], octets: &[u8]) -> Result<(), Refusal>
         ensures answer { result ≡ open_answer side code.now octets.now (meaning self.old) }
         ensures after { meaning self.new ≡ open_after side code.now octets.now (meaning self.old) };
@@ -22,6 +25,7 @@ pub trait Bearer {
         ensures after { meaning self.new ≡ give_after side octets.now (meaning self.old) };
 
     // Takes the string that waits for a side; the turn is then with the taker, of a garbled string too.
+    // The place stays a buffer of the caller's, since what stands in it beyond the string is promised to be kept.
     fn take(&mut self, side: Side, place: &mut [u8; 160]) -> Result<usize, Stop>
         ensures answer { result ≡ take_answer side (meaning self.old) }
         ensures within { IfOk result (λ n. n ≤ 152) }
@@ -51,7 +55,7 @@ pub trait Bearer {
         ensures { code_octets result ≡ code_of (meaning self.now) };
 
     // The string under way, whoever it is for: its octets are copied.
-    fn under_way(&self, place: &mut [u8; 160]) -> Option<Text>
+    fn under_way(&self, place: &mut [u8; 160]) -> Option<Result<usize, Garbled>>
         ensures answer { result ≡ text_of (string_of (meaning self.now)) }
         ensures place { place.new ≡ over (string_of (meaning self.now)) place.old };
 
@@ -60,6 +64,19 @@ pub trait Bearer {
 
     fn highest(&self) -> Highest
         ensures { result ≡ (meaning self.now).highest };
+
+    // All that the questions of a call are put to.
+    fn told(&self) -> Told
+        ensures { result ≡ tells (meaning self.now) }
+    {
+        Told {
+            is_open: self.is_open(),
+            standing: self.standing(),
+            number: self.number(),
+            longest: self.longest(),
+            highest: self.highest(),
+        }
+    }
 
     ghost figured: { (b : Self) → Figured (meaning b) };
 }

@@ -1,5 +1,6 @@
 ghost use Rattle.std.specs.Prelude.{◌≡◌};
-ghost use Rattle.bearer.specs.Side.{other as opposite, same as same_side, highest_octet};
+ghost use Rattle.bearer.specs.Side.{other as opposite, highest_octet};
+ghost use Rattle.bearer.specs.Meaning.{turn_is, is_for as waits_for};
 
 // The two sides of a dialogue.
 #[derive(Clone, Copy, PartialEq, Eq, Debug)]
@@ -17,47 +18,43 @@ impl Side {
             Side::Network => Side::Mobile,
         }
     }
-
-    pub fn same(self, side: Side) -> bool
-        ensures { result ≡ same_side self side }
-    {
-        match (self, side) {
-            (Side::Mobile, Side::Mobile) => true,
-            (Side::Network, Side::Network) => true,
-            _ => false,
-        }
-    }
 }
 
 // Closed, whose turn it is, or to whom a string is under way.
-#[derive(Clone, Copy)]
+#[derive(Clone, Copy, PartialEq, Eq, Debug)]
 pub enum Standing {
     Closed,
     Turn(Side),
     UnderWay(Side),
 }
 
+impl Standing {
+    // Whether it is a side's turn.
+    pub fn is_turn(self, side: Side) -> bool
+        ensures { result ≡ turn_is side self }
+    {
+        self == Standing::Turn(side)
+    }
+
+    // Whether a string waits for a side.
+    pub fn is_for(self, side: Side) -> bool
+        ensures { result ≡ waits_for side self }
+    {
+        self == Standing::UnderWay(side)
+    }
+}
+
 // The highest octet that a bearer carries.
-#[derive(Clone, Copy)]
+#[derive(Clone, Copy, PartialEq, Eq, Debug)]
 pub enum Highest {
-    Seven,
-    Eight,
+    Seven = 127,
+    Eight = 255,
 }
 
 impl Highest {
     pub fn octet(self) -> u8
         ensures { result ≡ highest_octet self }
     {
-        match self {
-            Highest::Seven => 127,
-            Highest::Eight => 255,
-        }
+        self as u8
     }
-}
-
-// A string under way that was asked for: garbled, or how many octets were copied.
-#[derive(Clone, Copy)]
-pub enum Text {
-    Garbled,
-    Octets(usize),
 }

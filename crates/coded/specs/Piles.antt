@@ -13,12 +13,13 @@ use Rattle.terms.proofs.Questions.{told_holds, told_all}
 use Rattle.bearer.specs.declared.side.Side.{Side}
 use Rattle.bearer.specs.declared.side.Highest.{Highest}
 use Rattle.bearer.specs.declared.side.Highest.TheVariants.{Seven, Eight}
-use Rattle.bearer.specs.declared.side.Text.{Text}
-use Rattle.bearer.specs.declared.side.Text.TheVariants as text
+use Rattle.bearer.specs.declared.told.Told.{Told}
+use Rattle.bearer.specs.declared.heard.Garbled.{Garbled}
 use Rattle.bearer.specs.Side.{other, highest_octet}
-use Rattle.bearer.specs.Meaning.{Meaning, Figured, Within, Dialogue, closed, open_with, turn, under_way, String, garbled, octets, low, is_open, is_open_in, stand_of, standing_in, code_of, code_in, turn_is, string_of, string_in, text_of, over, heard, heard_text, taken_by, with_dialogue, open_questions, opens_next, open_answer, open_after, give_questions, gives_next, give_answer, give_after, take_questions, take_asks, take_answer, take_place, take_after, close_answer, close_after}
-use Rattle.bearer.proofs.Calls.{open_done, give_done, Takes, take_refused, take_done, turned, text_heard, heard_short, made_is}
-use Rattle.coding.specs.Coding.{Octets, Lawful, most}
+use Rattle.bearer.specs.Meaning.{Meaning, Figured, Within, tells, open_asks, give_asks, Dialogue, closed, open_with, turn, under_way, String, garbled, octets, low, is_open, is_open_in, stand_of, standing_in, code_of, code_in, turn_is, string_of, string_in, text_of, text_in, over, heard, heard_text, taken_by, with_dialogue, open_questions, opens_next, open_answer, open_after, give_questions, gives_next, give_answer, give_after, take_questions, take_asks, take_answer, take_place, take_after, close_answer, close_after}
+use Rattle.bearer.proofs.Calls.{asks_open, asks_give, open_done, give_done, Takes, take_refused, take_done, turned, text_heard, heard_short, made_is}
+use Rattle.terms.specs.AtMost.{Octets}
+use Rattle.coding.specs.Coding.{Lawful, most}
 use Rattle.coding.proofs.Most.{most_within, most_top}
 use Rattle.coded.specs.Coded.{string_from, string_above, dialogue_above, above}
 use Rattle.coded.specs.Strings.{low_of, fits, shorter}
@@ -42,13 +43,22 @@ module _ (decoded : List ℕ → Option (List ℕ)) where
   code_above closed = refl
   code_above (open_with c s) = refl
 
-module _ (top : ℕ) (encoded : List ℕ → List ℕ) (decoded : List ℕ → Option (List ℕ)) (size : ℕ → ℕ) (laws : Lawful top encoded decoded size) where
+module _ {top : ℕ} {encoded : List ℕ → List ℕ} {decoded : List ℕ → Option (List ℕ)} {size : ℕ → ℕ} (laws : Lawful top encoded decoded size) where
   -- by the constant alone, the bearer below refuses no octet of an encoding
   low_below : (h : Highest) (xs : List ℕ) → Octets xs → low (highest_octet h) (encoded xs) ≡ true
   low_below h xs o = low_of top (highest_octet h) (encoded xs) (omega (arith, laws.small, least h)) (laws.below xs o)
 
   short_below : (m : Meaning) (xs : List ℕ) → nat_le (length xs) (most size m.longest) ≡ true → nat_le (length (encoded xs)) m.longest ≡ true
-  short_below m xs e = le-leb (length (encoded xs)) m.longest (fits top encoded decoded size laws m.longest xs (leb-true (length xs) (most size m.longest) e))
+  short_below m xs e = le-leb (length (encoded xs)) m.longest (fits laws m.longest xs (leb-true (length xs) (most size m.longest) e))
+
+  -- what the bearer above tells of itself answers the questions of a call
+  pub told_open : (side : Side) (code xs : List ℕ) (m : Meaning) (t : Told) (r : Result (Unit {0}) Refusal) → t ≡ tells (above decoded size m) → r ≡ asked (open_asks t.is_open t.longest t.highest t.number side code xs)
+      → r ≡ asked (open_questions side code xs (above decoded size m))
+  told_open side code xs m t r e a = a ∙ asks_open side code xs (above decoded size m) t e
+
+  pub told_give : (side : Side) (xs : List ℕ) (m : Meaning) (t : Told) (r : Result (Unit {0}) Refusal) → t ≡ tells (above decoded size m) → r ≡ asked (give_asks t.is_open t.standing t.longest t.highest side xs)
+      → r ≡ asked (give_questions side xs (above decoded size m))
+  told_give side xs m t r e a = a ∙ asks_give side xs (above decoded size m) t e
 
   -- what the bearer above would carry, the one below carries encoded
   pub opens : (side : Side) (code xs zs : List ℕ) (m n : Meaning) (r : Result (Unit {0}) Refusal) → Octets xs → zs ≡ encoded xs → Ok tt ≡ asked (open_questions side code xs (above decoded size m))
@@ -109,9 +119,9 @@ module _ (top : ℕ) (encoded : List ℕ → List ℕ) (decoded : List ℕ → O
 
   -- where a take is not refused, there is a string
   some_string : (side : Side) (d : Dialogue) → first_no (take_asks (is_open_in d) (standing_in d) side) ≡ None → string_in d ≢ None
-  some_string side closed e f = let z : ◌≡◌ {A = ℕ} 0 1 = cc in omega arith
-  some_string side (open_with c (turn s)) e f = let z : ◌≡◌ {A = ℕ} 0 1 = cc in omega arith
-  some_string side (open_with c (under_way s x)) e f = let z : ◌≡◌ {A = ℕ} 0 1 = cc in omega arith
+  some_string side closed e f = cc
+  some_string side (open_with c (turn s)) e f = cc
+  some_string side (open_with c (under_way s x)) e f = cc
 
   -- a take that is refused below
   refuses : (side : Side) (place : List ℕ) (m : Meaning) (q : Refusal) → first_no (take_questions side m) ≡ Some q → Takes side place (above decoded size m) (Err (Refused q)) place (above decoded size (take_after side m))
@@ -141,7 +151,7 @@ module _ (top : ℕ) (encoded : List ℕ → List ℕ) (decoded : List ℕ → O
       record { answer = ap Err z ∙ t.answer; copied = t.copied; after = t.after }
   err_by side place m y None None e f a = absurd (some_string side m.dialogue e f)
   err_by side place m y None (Some garbled) e f a = accepts side place place m garbled (Err y) e f a refl
-  err_by side place m y None (Some (octets ys)) e f a = let z : ◌≡◌ {A = ℕ} 0 1 = cc in absurd (omega arith)
+  err_by side place m y None (Some (octets ys)) e f a = cc
 
   pub takes_err : (side : Side) (place : List ℕ) (m n : Meaning) (y : Stop) → Err y ≡ take_answer side m → n ≡ take_after side m → Takes side place (above decoded size m) (Err y) place (above decoded size n)
   unfolding take_answer
@@ -153,19 +163,19 @@ module _ (top : ℕ) (encoded : List ℕ → List ℕ) (decoded : List ℕ → O
   front : (ys old string : List ℕ) (k : ℕ) → k ≡ length ys → string ≡ ys ++ drop (length ys) old → take k string ≡ ys
   front ys old string k e f = ap (λ v. take v string) e ∙ ap (take (length ys)) f ∙ take-append_seam ys (drop (length ys) old)
 
-  ok_by : (side : Side) (place new old string : List ℕ) (m : Meaning) (k : ℕ) (t : Text) (o : Option Refusal) (s : Option String) → first_no (take_questions side m) ≡ o → string_of m ≡ s → Ok k ≡ taken_by o s
-      → string ≡ unless_of o (over s old) old → Some t ≡ text_of (Some (string_from (decoded (take k string)))) → new ≡ over (Some (string_from (decoded (take k string)))) place
+  ok_by : (side : Side) (place new old string : List ℕ) (m : Meaning) (k : ℕ) (t : Result ℕ Garbled) (o : Option Refusal) (s : Option String) → first_no (take_questions side m) ≡ o → string_of m ≡ s → Ok k ≡ taken_by o s
+      → string ≡ unless_of o (over s old) old → t ≡ text_in (string_from (decoded (take k string))) → new ≡ over (Some (string_from (decoded (take k string)))) place
       → Takes side place (above decoded size m) (heard_text (Some t)) new (above decoded size (take_after side m))
-  ok_by side place new old string m k t (Some q) s e f a b h g = let z : ◌≡◌ {A = ℕ} 0 1 = cc in absurd (omega arith)
+  ok_by side place new old string m k t (Some q) s e f a b h g = cc
   ok_by side place new old string m k t None None e f a b h g = absurd (some_string side m.dialogue e f)
-  ok_by side place new old string m k t None (Some garbled) e f a b h g = let z : ◌≡◌ {A = ℕ} 0 1 = cc in absurd (omega arith)
+  ok_by side place new old string m k t None (Some garbled) e f a b h g = cc
   ok_by side place new old string m k t None (Some (octets ys)) e f a b h g =
       let c : k ≡ length ys = cc in
       let part = front ys old string k c b in
-      accepts side place new m (octets ys) (heard_text (Some t)) e f (ap heard_text h ∙ text_heard (Some (string_from (decoded (take k string)))) ∙ ap (λ v. heard (Some (string_from (decoded v)))) part) (g ∙ ap (λ v. over (Some (string_from (decoded v))) place) part)
+      accepts side place new m (octets ys) (heard_text (Some t)) e f (ap (λ v. heard_text (Some v)) h ∙ text_heard (Some (string_from (decoded (take k string)))) ∙ ap (λ v. heard (Some (string_from (decoded v)))) part) (g ∙ ap (λ v. over (Some (string_from (decoded v))) place) part)
 
-  pub takes_ok : (side : Side) (place new old string : List ℕ) (m n : Meaning) (k : ℕ) (t : Text) → Ok k ≡ take_answer side m → string ≡ take_place side old m → n ≡ take_after side m
-      → Some t ≡ text_of (Some (string_from (decoded (take k string)))) → new ≡ over (Some (string_from (decoded (take k string)))) place
+  pub takes_ok : (side : Side) (place new old string : List ℕ) (m n : Meaning) (k : ℕ) (t : Result ℕ Garbled) → Ok k ≡ take_answer side m → string ≡ take_place side old m → n ≡ take_after side m
+      → t ≡ text_in (string_from (decoded (take k string))) → new ≡ over (Some (string_from (decoded (take k string)))) place
       → Takes side place (above decoded size m) (heard_text (Some t)) new (above decoded size n)
   unfolding take_answer take_place
   takes_ok side place new old string m n k t a b w h g =
@@ -173,28 +183,28 @@ module _ (top : ℕ) (encoded : List ℕ → List ℕ) (decoded : List ℕ → O
       record { answer = z.answer; copied = z.copied; after = ap (above decoded size) w ∙ z.after }
 
   -- the string under way, told and copied
-  pub tells : (s : Option String) (place new old string : List ℕ) (k : ℕ) (t : Text) → Some (text.Octets k) ≡ text_of s → string ≡ over s old
-      → Some t ≡ text_of (Some (string_from (decoded (take k string)))) → new ≡ over (Some (string_from (decoded (take k string)))) place
+  tells_by : (s : Option String) (place new old string : List ℕ) (k : ℕ) (t : Result ℕ Garbled) → Some (Ok k) ≡ text_of s → string ≡ over s old
+      → t ≡ text_in (string_from (decoded (take k string))) → new ≡ over (Some (string_from (decoded (take k string)))) place
       → (Some t ≡ text_of (option_above s)) × (new ≡ over (option_above s) place)
-  tells None place new old string k t a b h g = let z : ◌≡◌ {A = ℕ} 0 1 = cc in absurd (omega arith)
-  tells (Some garbled) place new old string k t a b h g = let z : ◌≡◌ {A = ℕ} 0 1 = cc in absurd (omega arith)
-  tells (Some (octets ys)) place new old string k t a b h g =
+  tells_by None place new old string k t a b h g = cc
+  tells_by (Some garbled) place new old string k t a b h g = cc
+  tells_by (Some (octets ys)) place new old string k t a b h g =
       let c : k ≡ length ys = cc in
       let part = front ys old string k c b in
-      (h ∙ ap (λ v. text_of (Some (string_from (decoded v)))) part, g ∙ ap (λ v. over (Some (string_from (decoded v))) place) part)
+      (ap Some (h ∙ ap (λ v. text_in (string_from (decoded v))) part), g ∙ ap (λ v. over (Some (string_from (decoded v))) place) part)
 
-  pub told_above : (m : Meaning) (place new old string : List ℕ) (k : ℕ) (t : Text) → Some (text.Octets k) ≡ text_of (string_of m) → string ≡ over (string_of m) old
-      → Some t ≡ text_of (Some (string_from (decoded (take k string)))) → new ≡ over (Some (string_from (decoded (take k string)))) place
+  pub told_above : (m : Meaning) (place new old string : List ℕ) (k : ℕ) (t : Result ℕ Garbled) → Some (Ok k) ≡ text_of (string_of m) → string ≡ over (string_of m) old
+      → t ≡ text_in (string_from (decoded (take k string))) → new ≡ over (Some (string_from (decoded (take k string)))) place
       → (Some t ≡ text_of (string_of (above decoded size m))) × (new ≡ over (string_of (above decoded size m)) place)
   told_above m place new old string k t a b h g =
-      let p = tells (string_of m) place new old string k t a b h g in
+      let p = tells_by (string_of m) place new old string k t a b h g in
       (p.0 ∙ ap text_of (sym (string_above_lem m.dialogue)), p.1 ∙ ap (λ v. over v place) (sym (string_above_lem m.dialogue)))
 
   -- a decoded string lies within the figures of the pile
   within_from : (l : ℕ) (ys : List ℕ) (o : Option (List ℕ)) → decoded ys ≡ o → length ys ≤ l → Within (most size l) 255 (Some (string_from o))
   within_from l ys None e h = tt
   within_from l ys (Some xs) e h =
-      (most_top size laws.none laws.grows l (length xs) (omega (arith, shorter top encoded decoded size laws ys xs e)), low_of 255 255 xs (omega arith) (laws.only ys xs e).0)
+      (most_top size laws.none laws.grows l (length xs) (omega (arith, shorter laws ys xs e)), low_of 255 255 xs (omega arith) (laws.only ys xs e).0)
 
   within_by : (l h : ℕ) (s : Option String) → Within l h s → Within (most size l) 255 (option_above s)
   within_by l h None w = tt
@@ -202,10 +212,10 @@ module _ (top : ℕ) (encoded : List ℕ → List ℕ) (decoded : List ℕ → O
   within_by l h (Some (octets ys)) w = within_from l ys (decoded ys) refl w.0
 
   -- a string that was decoded is no longer than 152 octets, as what was decoded
-  pub told_short : (ys : List ℕ) (t : Text) → length ys ≤ 152 → Some t ≡ text_of (Some (string_from (decoded ys))) → IfOk (heard_text (Some t)) (λ n. n ≤ 152)
+  pub told_short : (ys : List ℕ) (t : Result ℕ Garbled) → length ys ≤ 152 → t ≡ text_in (string_from (decoded ys)) → IfOk (heard_text (Some t)) (λ n. n ≤ 152)
   told_short ys t h e =
       let s = Some (string_from (decoded ys)) in
-      made_is (λ n. n ≤ 152) (heard_text (Some t)) (heard s) (ap heard_text e ∙ text_heard s)
+      made_is (λ n. n ≤ 152) (heard_text (Some t)) (heard s) (ap (λ v. heard_text (Some v)) e ∙ text_heard s)
       (heard_short s (most size 152) 255 (most_within size laws.none laws.grows 152) (within_from 152 ys (decoded ys) refl h))
 
   pub figured_above : (m : Meaning) → Figured m → Figured (above decoded size m)

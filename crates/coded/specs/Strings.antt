@@ -1,21 +1,20 @@
 -- Strings on their way through a coding.
-use Rattle.std.specs.Prelude.{◌≡◌, ℕ, suc, ◌-◌, ◌<◌, ◌≤◌, Bool, true, false, cond, List, [], ◌∷◌, ◌++◌, length, take, drop, Some, None, Ok, Err, Option, ◌≢◌, nat_le, slice_index, refl}
+use Rattle.std.specs.Prelude.{◌≡◌, ℕ, suc, ◌<◌, ◌≤◌, true, List, [], ◌∷◌, ◌++◌, length, take, drop, Some, None, Ok, Err, Option, Result, MatchResult, is_ok, nat_le, slice_index, refl}
 use Rattle.std.proofs.Common.{sym, ap, ◌∙◌, arith, le-leb}
 use Rattle.std.proofs.Math.Seq.{take-append_seam}
 use Rattle.std.proofs.lemmas.Bool.{and_from}
 use Rattle.terms.specs.declared.refusal.Refusal.{Refusal}
-use Rattle.terms.specs.declared.refusal.Refusal.TheVariants as refusal
 use Rattle.terms.specs.declared.stop.Stop.{Stop}
-use Rattle.terms.specs.Question.{told_of, unless_of}
 use Rattle.terms.specs.Buffer.{answer_of, left_in}
-use Rattle.bearer.specs.declared.side.Text.TheVariants as text
-use Rattle.bearer.specs.Meaning.{low, text_of, over}
-use Rattle.coding.specs.Coding.{AtMost, Octets, Lawful, most, count_in, decoded_by, decoded_in}
+use Rattle.bearer.specs.declared.heard.Garbled.{Garbled}
+use Rattle.bearer.specs.Meaning.{low, text_in, over}
+use Rattle.terms.specs.AtMost.{AtMost, Octets}
+use Rattle.coding.specs.Coding.{Lawful, most}
+use Rattle.terms.proofs.Decodes.{decode_done}
+use Rattle.terms.specs.Decoded.{decoded_by, decoded_in}
+use Rattle.terms.proofs.Buffers.{room}
 use Rattle.coding.proofs.Most.{most_fits, grows_to, at_least}
 use Rattle.coded.specs.Coded.{string_from}
-
-pub minus_zero : (n : ℕ) → n - 0 ≡ n
-minus_zero n = omega arith
 
 pub octets_from : (xs : List ℕ) → ((i : ℕ) → slice_index xs i < 256) → Octets xs
 octets_from [] h = tt
@@ -26,50 +25,41 @@ pub low_of : (a b : ℕ) (xs : List ℕ) → a ≤ b → AtMost a xs → low b x
 low_of a b [] h o = refl
 low_of a b (x ∷ xs) h o = and_from (nat_le x b) (low b xs) (le-leb x b (omega (arith, h, o.0))) (low_of a b xs h o.1)
 
--- what was written into a place of octets that it holds
-pub put : (b : Bool) (ys old new : List ℕ) (n : ℕ) → nat_le (length ys) (length old) ≡ b → b ≡ true
-    → Ok n ≡ told_of (cond b None (Some refusal.Buffer)) (length ys) → new ≡ unless_of (cond b None (Some refusal.Buffer)) (ys ++ drop (length ys) old) old → (n ≡ length ys) × (take n new ≡ ys)
-put true ys old new n h t a e =
-    let k : n ≡ length ys = cc in
-    (k, ap (λ v. take v new) k ∙ ap (take (length ys)) e ∙ take-append_seam ys (drop (length ys) old))
-put false ys old new n h t a e = let z : ◌≡◌ {A = ℕ} 0 1 = cc in absurd (omega arith)
-
-pub written : (ys old new : List ℕ) (n : ℕ) → length ys ≤ length old → Ok n ≡ answer_of ys old → new ≡ left_in ys old → (n ≡ length ys) × (take n new ≡ ys)
-written ys old new n h a e = put (nat_le (length ys) (length old)) ys old new n refl (le-leb (length ys) (length old) h) a e
-
-refused_not : (b : Bool) (k : ℕ) (r : Refusal) → b ≡ true → Err r ≢ told_of (cond b None (Some refusal.Buffer)) k
-refused_not true k r t a = let z : ◌≡◌ {A = ℕ} 0 1 = cc in omega arith
-refused_not false k r t a = let z : ◌≡◌ {A = ℕ} 0 1 = cc in omega arith
-
-pub written_not : (ys old : List ℕ) (r : Refusal) → length ys ≤ length old → Err r ≢ answer_of ys old
-written_not ys old r h a = refused_not (nat_le (length ys) (length old)) (length ys) r (le-leb (length ys) (length old) h) a
-
--- what a decode answered where the place holds the result
-read_ok : (xs place new : List ℕ) (n : ℕ) (b : Bool) → b ≡ true → Ok n ≡ count_in (cond b None (Some refusal.Buffer)) (length xs) → new ≡ unless_of (cond b None (Some refusal.Buffer)) (xs ++ drop (length xs) place) place
-    → (Some (text.Octets n) ≡ text_of (Some (string_from (Some xs)))) × (new ≡ over (Some (string_from (Some xs))) place)
-read_ok xs place new n true t a e = let k : n ≡ length xs = cc in (ap (λ v. Some (text.Octets v)) k, e)
-read_ok xs place new n false t a e = let z : ◌≡◌ {A = ℕ} 0 1 = cc in absurd (omega arith)
+-- what was written into a place of octets that holds it
+pub written : (ys old new : List ℕ) (r : Result ℕ Refusal) → length ys ≤ length old → r ≡ answer_of ys old → new ≡ left_in ys old → (r ≡ Ok (length ys)) × (take (length ys) new ≡ ys)
+written ys old new r h a e =
+    let p = room ys old (ys ++ drop (length ys) old) (length ys) refl h refl in
+    (a ∙ sym p.0, ap (take (length ys)) (e ∙ sym p.1) ∙ take-append_seam ys (drop (length ys) old))
 
 -- the result is no longer than the place
-abbrev Held : Option (List ℕ) → List ℕ → Type 0
+abbrev pub Held : Option (List ℕ) → List ℕ → Type 0
 Held None place = Unit {0}
 Held (Some xs) place = length xs ≤ length place
 
-pub told_ok : (o : Option (List ℕ)) (place new : List ℕ) (n : ℕ) → Held o place → Ok n ≡ decoded_by o place → new ≡ decoded_in o place
-    → (Some (text.Octets n) ≡ text_of (Some (string_from o))) × (new ≡ over (Some (string_from o)) place)
-told_ok None place new n h a e = let z : ◌≡◌ {A = ℕ} 0 1 = cc in absurd (omega arith)
-told_ok (Some xs) place new n h a e = read_ok xs place new n (nat_le (length xs) (length place)) (le-leb (length xs) (length place) h) a e
+-- what a decode answered, of which only the count is kept
+abbrev counted : Result ℕ Stop → Result ℕ Garbled
+counted (Ok n) = Ok n
+counted (Err e) = Err (record {})
 
-not_refused : (b : Bool) (k : ℕ) (s : Stop) → b ≡ true → Err s ≢ count_in (cond b None (Some refusal.Buffer)) k
-not_refused true k s t a = let z : ◌≡◌ {A = ℕ} 0 1 = cc in omega arith
-not_refused false k s t a = let z : ◌≡◌ {A = ℕ} 0 1 = cc in omega arith
+counted_is : (P : Stop → Type 0) (r : Result ℕ Stop) (t : Result ℕ Garbled) → MatchResult r (λ n. t ≡ Ok n) P → is_ok t ≡ is_ok r → t ≡ counted r
+counted_is P (Ok n) t m v = m
+counted_is P (Err e) (Ok n) m v = cc v
+counted_is P (Err e) (Err g) m v = refl
 
-pub told_err : (o : Option (List ℕ)) (place new : List ℕ) (s : Stop) → Held o place → Err s ≡ decoded_by o place → new ≡ decoded_in o place
-    → (Some text.Garbled ≡ text_of (Some (string_from o))) × (new ≡ over (Some (string_from o)) place)
-told_err None place new s h a e = (refl, e)
-told_err (Some xs) place new s h a e = absurd (not_refused (nat_le (length xs) (length place)) (length xs) s (le-leb (length xs) (length place) h) a)
+decoded_told : (o : Option (List ℕ)) (place new : List ℕ) (r : Result ℕ Stop) → Held o place → r ≡ decoded_by o place → new ≡ decoded_in o place
+    → (counted r ≡ text_in (string_from o)) × (new ≡ over (Some (string_from o)) place)
+decoded_told None place new r h a e = (ap counted a, e)
+decoded_told (Some xs) place new r h a e =
+    let p = decode_done (Some xs) xs place (xs ++ drop (length xs) place) (length xs) refl refl h refl in
+    (ap counted (a ∙ sym p.0), e ∙ sym p.1)
 
-module _ (top : ℕ) (encoded : List ℕ → List ℕ) (decoded : List ℕ → Option (List ℕ)) (size : ℕ → ℕ) (laws : Lawful top encoded decoded size) where
+pub told : (P : Stop → Type 0) (o : Option (List ℕ)) (place new : List ℕ) (r : Result ℕ Stop) (t : Result ℕ Garbled) → Held o place → r ≡ decoded_by o place → new ≡ decoded_in o place
+    → MatchResult r (λ n. t ≡ Ok n) P → is_ok t ≡ is_ok r → (t ≡ text_in (string_from o)) × (new ≡ over (Some (string_from o)) place)
+told P o place new r t h a e m v =
+    let p = decoded_told o place new r h a e in
+    (counted_is P r t m v ∙ p.0, p.1)
+
+module _ {top : ℕ} {encoded : List ℕ → List ℕ} {decoded : List ℕ → Option (List ℕ)} {size : ℕ → ℕ} (laws : Lawful top encoded decoded size) where
   -- octets no more than the longest string have an encoding that fits
   pub fits : (room : ℕ) (xs : List ℕ) → length xs ≤ most size room → length (encoded xs) ≤ room
   fits room xs h =

@@ -1,11 +1,10 @@
 ghost use Rattle.std.specs.Prelude.{◌≡◌, ℕ, ◌≤◌, List, length, take, Some};
-ghost use Rattle.bearer.specs.Meaning.{text_of, over};
-ghost use Rattle.coding.specs.Coding.{most};
-ghost use Rattle.coded.specs.Coded.{above, string_from};
+ghost use Rattle.bearer.specs.Meaning.{text_in, over};
+ghost use Rattle.coded.specs.Coded.{meaning_of, stands_for};
 
 use crate::pile::Coded;
 use bearer::Bearer;
-use bearer::side::Text;
+use bearer::heard::Garbled;
 use coding::Coding;
 
 impl<B: Bearer, C: Coding> Coded<B, C> {
@@ -25,27 +24,23 @@ impl<B: Bearer, C: Coding> Coded<B, C> {
         (self.below, self.coding)
     }
 
-    // The encoding of octets that are no more than the longest string.
-    pub(crate) fn encoded(&self, octets: &[u8], string: &mut [u8; 160]) -> usize
-        requires { length octets.now ≤ most (C.Coding.size self.now.coding) (B.Bearer.meaning self.now.below).longest }
-        ensures count { result ≤ 160 }
-        ensures octets { take result string.new ≡ C.Coding.encoded self.now.coding octets.now }
+    // The encoding of octets that are no more than the longest string, written into an array.
+    pub(crate) fn encoded<'a>(&self, octets: &[u8], string: &'a mut [u8; 160]) -> &'a [u8]
+        requires { length octets.now ≤ (meaning_of B.Bearer C.Coding self.now).longest }
+        ensures { result.now ≡ C.Coding.encoded self.now.coding octets.now }
     {
-        match self.coding.encode(octets, &mut string[..]) {
-            Ok(n) => n,
-            Err(_) => 0,
-        }
+        let n = self.coding.encode(octets, &mut string[..]).unwrap();
+        &string[..n]
     }
 
     // What a string from below stands for.
-    pub(crate) fn decoded(&self, text: &[u8], place: &mut [u8; 160]) -> Text
+    pub(crate) fn decoded(&self, text: &[u8], place: &mut [u8; 160]) -> Result<usize, Garbled>
         requires { length text.now ≤ 160 }
-        ensures answer { Some result ≡ text_of (Some (string_from (C.Coding.decoded self.now.coding text.now))) }
-        ensures place { place.new ≡ over (Some (string_from (C.Coding.decoded self.now.coding text.now))) place.old }
+        ensures answer { result ≡ text_in (stands_for C.Coding self.now text.now) }
+        ensures place { place.new ≡ over (Some (stands_for C.Coding self.now text.now)) place.old }
     {
-        match self.coding.decode(text, &mut place[..]) {
-            Ok(n) => Text::Octets(n),
-            Err(_) => Text::Garbled,
-        }
+        self.coding
+            .decode(text, &mut place[..])
+            .map_err(|_| Garbled)
     }
 }

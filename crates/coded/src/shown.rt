@@ -1,56 +1,40 @@
-ghost use Rattle.coded.specs.Coded.{above};
+ghost use Rattle.coded.specs.Coded.{meaning_of};
 ghost use Rattle.coded.specs.Piles.{figured_above};
 
 use crate::pile::Coded;
 use bearer::Bearer;
-use bearer::asks::{ask_give, ask_open, heard_as};
 use bearer::code::Code;
-use bearer::side::{Highest, Side, Standing, Text};
+use bearer::heard::Garbled;
+use bearer::side::{Highest, Side, Standing};
 use coding::Coding;
 use terms::refusal::Refusal;
 use terms::stop::Stop;
 
 impl<B: Bearer, C: Coding> Bearer for Coded<B, C> {
-    ghost meaning = { λ s. above (C.Coding.decoded s.coding) (C.Coding.size s.coding) (B.Bearer.meaning s.below) };
+    ghost meaning = { meaning_of B.Bearer C.Coding };
 
     ghost figured = { λ b.
-        let k = C.Coding in
-        figured_above k.top (k.encoded b.coding) (k.decoded b.coding) (k.size b.coding) (C.Coding.lawful b.coding) (B.Bearer.meaning b.below) (B.Bearer.figured b.below) };
+        figured_above (C.Coding.lawful b.coding) (B.Bearer.meaning b.below) (B.Bearer.figured b.below) };
 
     fn open(&mut self, side: Side, code: &[u8], octets: &[u8]) -> Result<(), Refusal> {
-        ask_open(
-            self.is_open(),
-            self.longest(),
-            Highest::Eight,
-            self.number(),
-            side,
-            code,
-            octets,
-        )?;
+        self.told().ask_open(side, code, octets)?;
         let mut string = [0u8; 160];
-        let n = self.encoded(octets, &mut string);
-        self.below.open(side, code, &string[0..n])
+        let string = self.encoded(octets, &mut string);
+        self.below.open(side, code, string)
     }
 
     fn give(&mut self, side: Side, octets: &[u8]) -> Result<(), Refusal> {
-        ask_give(
-            self.is_open(),
-            self.standing(),
-            self.longest(),
-            Highest::Eight,
-            side,
-            octets,
-        )?;
+        self.told().ask_give(side, octets)?;
         let mut string = [0u8; 160];
-        let n = self.encoded(octets, &mut string);
-        self.below.give(side, &string[0..n])
+        let string = self.encoded(octets, &mut string);
+        self.below.give(side, string)
     }
 
     fn take(&mut self, side: Side, place: &mut [u8; 160]) -> Result<usize, Stop> {
+        // Not `Octets`: a bearer copies into the array of its caller.
         let mut string = [0u8; 160];
         let n = self.below.take(side, &mut string)?;
-        let text = self.decoded(&string[0..n], place);
-        heard_as(Some(text))
+        Ok(self.decoded(&string[..n], place)?)
     }
 
     fn close(&mut self, side: Side) -> Result<(), Refusal> {
@@ -77,12 +61,12 @@ impl<B: Bearer, C: Coding> Bearer for Coded<B, C> {
         self.below.code()
     }
 
-    fn under_way(&self, place: &mut [u8; 160]) -> Option<Text> {
+    fn under_way(&self, place: &mut [u8; 160]) -> Option<Result<usize, Garbled>> {
         let mut string = [0u8; 160];
-        let text = self.below.under_way(&mut string)?;
-        match text {
-            Text::Garbled => Some(Text::Garbled),
-            Text::Octets(n) => Some(self.decoded(&string[0..n], place)),
+        // Not `and_then`: no contract tells what a closure leaves in `place`.
+        match self.below.under_way(&mut string)? {
+            Ok(n) => Some(self.decoded(&string[..n], place)),
+            Err(garbled) => Some(Err(garbled)),
         }
     }
 

@@ -1,2 +1,1 @@
-pub mod Decodes
 pub mod Most

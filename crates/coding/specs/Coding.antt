@@ -1,21 +1,6 @@
 -- What a coding is: octets turned into low ones, and back.
-use Rattle.std.specs.Prelude.{◌≡◌, ℕ, zero, suc, ◌+◌, ◌<◌, ◌≤◌, cond, List, [], ◌∷◌, length, Some, None, Ok, Err, Option, Result, nat_le}
-use Rattle.terms.specs.declared.refusal.Refusal.{Refusal}
-use Rattle.terms.specs.declared.fault.Layer.TheVariants.{Coding}
-use Rattle.terms.specs.declared.stop.Stop.{Stop}
-use Rattle.terms.specs.declared.stop.Stop.TheVariants.{Refused, Faulty}
-use Rattle.terms.specs.Question.{first_no}
-use Rattle.terms.specs.Cause.{fault_of}
-use Rattle.terms.specs.Buffer.{room_questions, left_in}
-
--- none is above h
-abbrev pub AtMost : ℕ → List ℕ → Type 0
-AtMost h [] = Unit {0}
-AtMost h (x ∷ xs) = (x ≤ h) × AtMost h xs
-
--- each is an octet
-abbrev pub Octets : List ℕ → Type 0
-Octets xs = AtMost 255 xs
+use Rattle.std.specs.Prelude.{◌≡◌, ℕ, zero, suc, ◌+◌, ◌<◌, ◌≤◌, cond, List, length, Some, Option, nat_le}
+use Rattle.terms.specs.AtMost.{AtMost, Octets}
 
 -- the law of a coding with highest octet `top`; `size` tells the length of an encoding by the count of octets alone
 pub record Lawful (top : ℕ) (encoded : List ℕ → List ℕ) (decoded : List ℕ → Option (List ℕ)) (size : ℕ → ℕ) : Type 0 where
@@ -37,16 +22,3 @@ most_up_to size room (suc n) = cond (nat_le (size (suc n)) room) (suc n) (most_u
 -- the most octets whose encoding fits the room: since encodings grow with each octet, no more octets than the room has
 unfoldable pub most : (ℕ → ℕ) → ℕ → ℕ
 most size room = most_up_to size room room
-
-abbrev pub count_in : Option Refusal → ℕ → Result ℕ Stop
-count_in None n = Ok n
-count_in (Some r) n = Err (Refused r)
-
--- decoding: fault 40 of what is no encoding; then, does the buffer hold the result?
-abbrev pub decoded_by : Option (List ℕ) → List ℕ → Result ℕ Stop
-decoded_by None out = Err (Faulty (fault_of 40 0 Coding))
-decoded_by (Some xs) out = count_in (first_no (room_questions xs out)) (length xs)
-
-abbrev pub decoded_in : Option (List ℕ) → List ℕ → List ℕ
-decoded_in None out = out
-decoded_in (Some xs) out = left_in xs out

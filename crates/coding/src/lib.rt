@@ -2,7 +2,8 @@
 
 ghost use Rattle.std.specs.Prelude.{◌≡◌, ℕ, List, Option};
 ghost use Rattle.terms.specs.Buffer.{answer_of, left_in};
-ghost use Rattle.coding.specs.Coding.{Lawful, most, decoded_by, decoded_in};
+ghost use Rattle.terms.specs.Decoded.{decoded_by, decoded_in};
+ghost use Rattle.coding.specs.Coding.{Lawful, most};
 
 use terms::refusal::Refusal;
 use terms::stop::Stop;
@@ -12,8 +13,7 @@ use terms::stop::Stop;
 pub trait Coding {
     const HIGHEST: u8;
 
-    // The constant, for clauses, which cannot name it.
-    ghost top: { ℕ };
+    ghost HIGHEST: { ℕ };
 
     ghost encoded: { Self → List ℕ → List ℕ };
 
@@ -22,10 +22,6 @@ pub trait Coding {
 
     // How long the encoding of so many octets is.
     ghost size: { Self → ℕ → ℕ };
-
-    // The constant, for callers of any coding.
-    fn top_octet(&self) -> u8
-        ensures { result ≡ top };
 
     // The most octets whose encoding has at most `room` octets.
     fn most(&self, room: usize) -> usize
@@ -41,5 +37,5 @@ pub trait Coding {
         ensures answer { result ≡ decoded_by (decoded self.now text.now) out.old }
         ensures after { out.new ≡ decoded_in (decoded self.now text.now) out.old };
 
-    ghost lawful: { (c : Self) → Lawful top (encoded c) (decoded c) (size c) };
+    ghost lawful: { (c : Self) → Lawful HIGHEST (encoded c) (decoded c) (size c) };
 }

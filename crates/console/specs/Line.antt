@@ -1,36 +1,30 @@
 -- What a line of input is.
-use Rattle.std.specs.Prelude.{ℕ, ◌-◌, ◌/◌, ◌%◌, Bool, true, cond, ◌&&◌, ◌||◌, List, [], ◌∷◌, length, take, Ok, Err, vec_items, Result, ◌==◌, nat_le, slice_index}
+use Rattle.std.specs.Prelude.{ℕ, ◌-◌, ◌/◌, ◌%◌, Bool, true, cond, not, ◌&&◌, ◌||◌, List, [], ◌∷◌, length, take, filter, Ok, Err, vec_items, Result, ◌==◌, nat_le, slice_index}
+use Rattle.std.specs.List.{list_all, slice_split}
 use Rattle.terms.specs.Question.{Question, told}
 use Rattle.console.specs.declared.line.Reason.{Reason}
 use Rattle.console.specs.declared.line.Reason.TheVariants.{NotHex, OddCount, TooLong}
 use Rattle.console.specs.declared.line.Line.{Line}
 use Rattle.console.specs.declared.line.Line.TheVariants as line
+use Rattle.rules.specs.HeaderRules.{must}
 use Rattle.console.specs.Hex.{is_digit, paired}
 
 abbrev pub space : ℕ
 space = 0x20
 
+abbrev pub is_space : ℕ → Bool
+is_space c = c == space
+
 -- the line without its spaces
 abbrev pub unspaced : List ℕ → List ℕ
-unspaced [] = []
-unspaced (c ∷ cs) = cond (c == space) (unspaced cs) (c ∷ unspaced cs)
-
-abbrev pub all : (ℕ → Bool) → List ℕ → Bool
-all p [] = true
-all p (c ∷ cs) = p c && all p cs
-
-abbrev pub join_first : ℕ → List (List ℕ) → List (List ℕ)
-join_first c [] = (c ∷ []) ∷ []
-join_first c (w ∷ ws) = (c ∷ w) ∷ ws
+unspaced cs = filter (λ c. not (is_space c)) cs
 
 -- the groups that stand between spaces; two spaces side by side have an empty one between them
 abbrev pub groups : List ℕ → List (List ℕ)
-groups [] = [] ∷ []
-groups (c ∷ cs) = cond (c == space) ([] ∷ groups cs) (join_first c (groups cs))
+groups cs = slice_split is_space cs
 
 abbrev pub all_empty : List (List ℕ) → Bool
-all_empty [] = true
-all_empty (w ∷ ws) = length w == 0 && all_empty ws
+all_empty ws = list_all (λ w. length w == 0) ws
 
 -- no space stands inside an octet: each group has an even count of digits, but for the last one on the line
 abbrev pub unbroken : List (List ℕ) → Bool
@@ -39,10 +33,7 @@ unbroken (w ∷ ws) = cond (length w % 2 == 0) (unbroken ws) (all_empty ws)
 
 -- hex digits, with spaces before, between and behind octets
 abbrev pub is_hex : List ℕ → Bool
-is_hex cs = all is_digit (unspaced cs) && unbroken (groups cs)
-
-abbrev pub must : Bool → Reason → Question Reason
-must b reason = record { holds = b; otherwise = reason }
+is_hex cs = list_all is_digit (unspaced cs) && unbroken (groups cs)
 
 -- the longest string is of 160 octets
 abbrev pub questions : List ℕ → List (Question Reason)

@@ -1,7 +1,9 @@
 ghost use Rattle.std.specs.Prelude.{◌≡◌, map, string_bytes};
-ghost use Rattle.console.specs.Command.{command_named, command_alone, command_asked};
+ghost use Rattle.console.specs.Command.{command_asked};
 
+use std::error::Error;
 use std::fmt;
+use std::str::FromStr;
 
 // What the program is asked to do.
 #[derive(Clone, Copy, PartialEq, Eq, Debug)]
@@ -20,43 +22,38 @@ pub enum Misuse {
     LogWords,
 }
 
-impl Command {
-    // The command of a name.
-    pub fn named(name: &str) -> Option<Command>
-        ensures { result ≡ command_named name.now }
-    {
-        match name {
-            "strings" => Some(Command::Strings),
-            "log" => Some(Command::Log),
-            "help" => Some(Command::Help),
-            _ => None,
-        }
-    }
+// The command of a name.
+impl FromStr for Command {
+    type Err = Misuse;
 
-    // The command that the arguments ask for; the program's own name is none of them.
-    pub fn asked(words: &[String]) -> Result<Command, Misuse>
-        ensures { result ≡ command_asked (map string_bytes words.now) }
-    {
-        if words.is_empty() {
-            return Err(Misuse::NoCommand);
+    ghost use Rattle.std.specs.Prelude.{◌≡◌};
+    ghost use Rattle.std.specs.Option.{ok_or};
+    ghost use Rattle.console.specs.declared.command.Misuse.TheVariants.{NoSuchCommand};
+    ghost use Rattle.console.specs.Command.{command_named};
+
+    ghost from_str_gives = { λ name r. r ≡ ok_or (command_named name) NoSuchCommand };
+
+    fn from_str(name: &str) -> Result<Command, Misuse> {
+        match name {
+            "strings" => Ok(Command::Strings),
+            "log" => Ok(Command::Log),
+            "help" => Ok(Command::Help),
+            _ => Err(Misuse::NoSuchCommand),
         }
-        alone(Command::named(words[0].as_str()), words.len())
     }
 }
 
-// A command stands alone: its name is the only one of the words. A log takes words of its own.
-fn alone(command: Option<Command>, words: usize) -> Result<Command, Misuse>
-    ensures { result ≡ command_alone command words }
-{
-    match command {
-        None => Err(Misuse::NoSuchCommand),
-        Some(Command::Log) => Ok(Command::Log),
-        Some(command) => {
-            if words > 1 {
-                return Err(Misuse::WordsBehind);
-            }
-            Ok(command)
+impl Command {
+    // The command that the arguments ask for; the program's own name is none of them. A command stands alone, but a log takes words of its own.
+    pub fn asked(words: &[String]) -> Result<Command, Misuse>
+        ensures { result ≡ command_asked (map string_bytes words.now) }
+    {
+        let (name, more) = words.split_first().ok_or(Misuse::NoCommand)?;
+        let command = name.as_str().parse()?;
+        if command != Command::Log && !more.is_empty() {
+            return Err(Misuse::WordsBehind);
         }
+        Ok(command)
     }
 }
 
@@ -71,6 +68,8 @@ impl fmt::Display for Misuse {
         write!(f, "{words}; `kurbelna help` tells the commands")
     }
 }
+
+impl Error for Misuse {}
 
 // What `help` writes.
 pub const HELP: &str = "kurbelna COMMAND

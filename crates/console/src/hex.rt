@@ -1,6 +1,6 @@
-ghost use Rattle.std.specs.Prelude.{◌≡◌, ◌<◌, IfOk};
-ghost use Rattle.std.specs.Option.{unwrap_or};
-ghost use Rattle.console.specs.Hex.{digit_value, paired};
+ghost use Rattle.std.specs.Prelude.{◌≡◌, IfOk, IsTrue};
+ghost use Rattle.std.specs.List.{list_all};
+ghost use Rattle.console.specs.Hex.{digit_value, is_digit, paired};
 
 use std::alloc::{AllocError, Global};
 
@@ -8,31 +8,18 @@ use std::alloc::{AllocError, Global};
 pub fn digit(c: u8) -> Option<u8>
     ensures { result ≡ digit_value c }
 {
-    match c {
-        b'0'..=b'9' => Some(c - b'0'),
-        b'A'..=b'F' => Some(c - b'A' + 10),
-        b'a'..=b'f' => Some(c - b'a' + 10),
-        _ => None,
-    }
-}
-
-// The value of a digit, and 0 of what is none.
-fn value(c: u8) -> u8
-    ensures same { result ≡ unwrap_or (digit_value c) 0 }
-    ensures small { result < 16 }
-{
-    digit(c).unwrap_or(0)
+    let worth = (c as char).to_digit(16)?;
+    Some(worth as u8)
 }
 
 // The octets of hex digits, two to an octet.
 pub(crate) fn octets(heap: Global, digits: &[u8]) -> Result<Vec<u8>, AllocError>
+    requires { IsTrue (list_all is_digit digits.now) }
     ensures { IfOk result (λ v. v.items ≡ paired digits.now) }
 {
     let mut all = Vec::new(heap);
-    let mut rest = digits;
-    while let [high, low, tail @ ..] = rest {
-        all.push(value(*high) * 16 + value(*low))?;
-        rest = tail;
+    for pair in digits.chunks_exact(2) {
+        all.push(digit(pair[0]).unwrap() * 16 + digit(pair[1]).unwrap())?;
     }
     Ok(all)
 }

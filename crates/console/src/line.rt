@@ -1,7 +1,8 @@
 ghost use Rattle.std.specs.Prelude.{◌≡◌, IfOk};
+ghost use Rattle.std.specs.List.{list_all};
 ghost use Rattle.terms.specs.Question.{first_no};
 ghost use Rattle.console.specs.Hex.{is_digit};
-ghost use Rattle.console.specs.Line.{unspaced, all, groups, all_empty, unbroken, questions, is_comment, passed_over, is_dash, meaning, seen_line, without_last, without_end};
+ghost use Rattle.console.specs.Line.{is_space, unspaced, groups, unbroken, questions, meaning, seen_line, without_last, without_end};
 
 use crate::hex;
 use std::alloc::{AllocError, Global};
@@ -15,7 +16,7 @@ pub enum Reason {
     TooLong,
 }
 
-// What a line of input is.
+// What a line of input is. Three cases of its own: an Option of a Result would be no plainer than three names.
 #[derive(Drop)]
 pub enum Line {
     PassedOver,
@@ -29,53 +30,23 @@ const LONGEST: usize = 160;
 fn without_spaces(heap: Global, line: &[u8]) -> Result<Vec<u8>, AllocError>
     ensures { IfOk result (λ v. v.items ≡ unspaced line.now) }
 {
-    let mut all = Vec::new(heap);
-    for c in line {
-        if *c != b' ' {
-            all.push(*c)?;
-        }
-    }
-    Ok(all)
+    line.iter().copied().filter(|c| *c != b' ').collect(heap)
 }
 
 fn all_digits(digits: &[u8]) -> bool
-    ensures { result ≡ all is_digit digits.now }
+    ensures { result ≡ list_all is_digit digits.now }
 {
-    for c in digits {
-        if hex::digit(*c).is_none() {
-            return false;
-        }
-    }
-    true
+    digits.iter().all(|c| hex::digit(*c).is_some())
 }
 
-// Whether nothing but spaces stands here.
-fn is_blank(line: &[u8]) -> bool
-    ensures { result ≡ all_empty (groups line.now) }
-{
-    for c in line {
-        if *c != b' ' {
-            return false;
-        }
-    }
-    true
-}
-
-// Whether no space stands inside an octet.
+// Whether no space stands inside an octet: a group of half an octet has only empty groups behind it.
 fn is_unbroken(line: &[u8]) -> bool
     ensures { result ≡ unbroken (groups line.now) }
 {
-    let mut rest = line;
-    let mut half = false;
-    while let [c, tail @ ..] = rest {
-        if *c != b' ' {
-            half = !half;
-        } else if half {
-            return is_blank(tail);
-        }
-        rest = tail;
-    }
-    true
+    line.split(|c| *c == b' ')
+        .skip_while(|group| group.len() % 2 == 0)
+        .skip(1)
+        .all(|group| group.is_empty())
 }
 
 // Why a line is no string, if it is none; `digits` is the line without its spaces.
@@ -95,52 +66,28 @@ fn refusal(line: &[u8], digits: &[u8]) -> Option<Reason>
     None
 }
 
-fn is_comment(line: &[u8]) -> bool
-    ensures { result ≡ is_comment line.now }
-{
-    line.len() > 0 && line[0] == b'#'
-}
-
-// Whether a line says nothing; `digits` is the line without its spaces.
-fn is_passed_over(line: &[u8], digits: &[u8]) -> bool
-    requires { digits.now ≡ unspaced line.now }
-    ensures { result ≡ passed_over line.now }
-{
-    is_comment(line) || digits.is_empty()
-}
-
-fn is_dash(digits: &[u8]) -> bool
-    ensures { result ≡ is_dash digits.now }
-{
-    digits.len() == 1 && digits[0] == b'-'
-}
-
 // What a line is. It comes without its end.
 pub fn read_line(heap: Global, line: &[u8]) -> Result<Line, AllocError>
     ensures { IfOk result (λ l. seen_line l ≡ meaning line.now) }
 {
-    let kept = without_spaces(heap, line)?;
-    let digits = kept.as_slice();
-    if is_passed_over(line, digits) {
+    if let [b'#', ..] = line {
         return Ok(Line::PassedOver);
     }
-    if is_dash(digits) {
-        return Ok(Line::String(Vec::new(heap)));
-    }
-    match refusal(line, digits) {
-        Some(reason) => Ok(Line::Refused(reason)),
-        None => Ok(Line::String(hex::octets(heap, digits)?)),
+    let kept = without_spaces(heap, line)?;
+    match kept.as_slice() {
+        [] => Ok(Line::PassedOver),
+        [b'-'] => Ok(Line::String(Vec::new(heap))),
+        digits => match refusal(line, digits) {
+            Some(reason) => Ok(Line::Refused(reason)),
+            None => Ok(Line::String(hex::octets(heap, digits)?)),
+        },
     }
 }
 
 fn without_last(line: &[u8], end: u8) -> &[u8]
     ensures { result.now ≡ without_last end line.now }
 {
-    let n = line.len();
-    if n > 0 && line[n - 1] == end {
-        return &line[0..n - 1];
-    }
-    line
+    line.strip_suffix(&[end]).unwrap_or(line)
 }
 
 // A line without its end, which is LF, or CR and LF, or nothing in the last line.

@@ -2,7 +2,7 @@ ghost use Rattle.std.specs.Prelude.{◌≡◌, OnOk};
 ghost use Rattle.console.specs.Line.{meaning, without_end};
 ghost use Rattle.console.specs.Tally.{none, counted_sound, counted_string, counted_line};
 
-use crate::line::{Line, Reason, read_line, without_end};
+use crate::line::{Line, read_line, without_end};
 use rules::rule::Rule;
 use std::alloc::{AllocError, Global};
 use std::fmt;
@@ -13,7 +13,7 @@ use wording::dump::Dump;
 use wording::words::{FaultWords, PduWords};
 
 // How many lines, and how many strings of either kind, were read.
-#[derive(Clone, Copy, PartialEq, Eq, Debug)]
+#[derive(Clone, Copy, PartialEq, Eq, Debug, Default)]
 pub struct Tally {
     pub lines: u64,
     pub sound: u64,
@@ -24,10 +24,17 @@ impl Tally {
     pub fn new() -> Tally
         ensures { result ≡ none }
     {
-        Tally {
-            lines: 0,
-            sound: 0,
-            broken: 0,
+        Tally::default()
+    }
+
+    // One string more, sound or broken.
+    fn count(&mut self, sound: bool)
+        ensures { self.new ≡ counted_sound sound self.old }
+    {
+        if sound {
+            self.sound = self.sound.saturating_add(1);
+        } else {
+            self.broken = self.broken.saturating_add(1);
         }
     }
 }
@@ -54,42 +61,24 @@ impl fmt::Display for Explained<'_> {
         match self.read {
             Ok(pdu) => {
                 let words = PduWords(pdu);
-                write!(f, "{words}\n")?;
+                writeln!(f, "{words}")?;
             }
             Err(fault) => {
                 let words = FaultWords(fault);
-                write!(f, "{words}\n")?;
+                writeln!(f, "{words}")?;
             }
         }
         for step in self.steps.iter() {
-            write!(f, "  {step}\n")?;
+            writeln!(f, "  {step}")?;
         }
         if let Err(fault) = self.read {
             let place = fault.place;
             let octets = self.string;
             let dump = Dump { octets, place };
             let rule = Rule::behind(octets, fault);
-            write!(f, "{dump}  at {place}: {rule}\n")?;
+            writeln!(f, "{dump}  at {place}: {rule}")?;
         }
         Ok(())
-    }
-}
-
-// The tally with one string more.
-fn counted(tally: Tally, sound: bool) -> Tally
-    ensures { result ≡ counted_sound sound tally }
-{
-    if sound {
-        return Tally {
-            lines: tally.lines,
-            sound: tally.sound.saturating_add(1),
-            broken: tally.broken,
-        };
-    }
-    Tally {
-        lines: tally.lines,
-        sound: tally.sound,
-        broken: tally.broken.saturating_add(1),
     }
 }
 
@@ -97,7 +86,7 @@ fn explain(heap: Global, tally: &mut Tally, string: &[u8]) -> Result<String, All
     ensures { tally.new ≡ counted_string string.now tally.old }
 {
     let read = reader::read(string);
-    *tally = counted(*tally, read.is_ok());
+    tally.count(read.is_ok());
     let steps = steps(heap, string, read)?;
     let answer = Explained {
         string,

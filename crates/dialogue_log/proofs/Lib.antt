@@ -1,2 +1,1 @@
 pub mod Brings
-pub mod Entries

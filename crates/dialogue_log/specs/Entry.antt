@@ -1,6 +1,5 @@
 -- One line of a log: a side and the raw line, a side that closes, or the loss of the radio.
 use Rattle.std.specs.Prelude.{ℕ, cond, ◌&&◌, List, length, take, drop, Some, None, codes, Option, nat_le}
-use Rattle.std.specs.Borrow.{Bor}
 use Rattle.std.specs.Str.{bytes_eq}
 use Rattle.bearer.specs.declared.side.Side.{Side}
 use Rattle.bearer.specs.declared.side.Side.TheVariants.{Mobile, Network}
@@ -20,10 +19,6 @@ seen_entry entry.Lose = lose
 abbrev pub seen_in : Option Entry → Option Seen
 seen_in None = None
 seen_in (Some e) = Some (seen_entry e)
-
-abbrev pub seen_text : Option (Bor (List ℕ)) → Option (List ℕ)
-seen_text None = None
-seen_text (Some t) = Some t.now
 
 -- what follows a word at the front of a line
 abbrev pub text_behind : (word line : List ℕ) → Option (List ℕ)

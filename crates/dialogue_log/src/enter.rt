@@ -1,47 +1,43 @@
-ghost use Rattle.std.specs.Prelude.{◌≡◌};
-ghost use Rattle.lines.specs.State.{means_by};
+ghost use Rattle.std.specs.Prelude.{◌≡◌, IfOk};
+ghost use Rattle.lines.specs.State.{meaning_of};
 ghost use Rattle.dialogue_log.specs.Entry.{seen_entry};
-ghost use Rattle.dialogue_log.specs.Enter.{Fits, closed_by, entered_answer, entered_place, entered_after};
+ghost use Rattle.dialogue_log.specs.Enter.{Fits, entered_answer, entered_place, entered_after};
 
 use crate::bring::bring;
 use crate::entry::Entry;
 use bearer::Bearer;
 use lines::line::Line;
 use lines::state::Carrier;
-use terms::refusal::Refusal;
 use terms::stop::Stop;
 
-// What came of an entry: so many octets were taken, the call stopped, or the dialogue is over.
-#[derive(Clone, Copy)]
-pub enum Outcome {
-    Taken(usize),
-    Stopped(Stop),
+// What came of an entry that was not stopped: the other side took something, or the dialogue is over.
+#[derive(Clone, Copy, PartialEq, Eq, Debug)]
+pub enum Outcome<T> {
+    Taken(T),
     Closed,
     Lost,
 }
 
-fn closed(over: Outcome, r: Result<(), Refusal>) -> Outcome
-    ensures { result ≡ closed_by over r }
+// Plays one entry of a log, and tells how many octets were taken; the text of a load is the raw line.
+pub fn enter<L: Line>(
+    b: &mut Carrier<L>,
+    entry: Entry<'_>,
+    place: &mut [u8; 160],
+) -> Result<Outcome<usize>, Stop>
+    ensures answer { result ≡ entered_answer L.Line (seen_entry entry.entry) (meaning_of L.Line b.old) }
+    ensures within { IfOk result Fits }
+    ensures place { place.new ≡ entered_place L.Line (seen_entry entry.entry) place.old (meaning_of L.Line b.old) }
+    ensures after { meaning_of L.Line b.new ≡ entered_after L.Line (seen_entry entry.entry) (meaning_of L.Line b.old) }
 {
-    match r {
-        Ok(()) => over,
-        Err(no) => Outcome::Stopped(Stop::Refused(no)),
-    }
-}
-
-// Plays one entry of a log; the text of a load is the raw line.
-pub fn enter<L: Line>(b: &mut Carrier<L>, entry: Entry<'_>, place: &mut [u8; 160]) -> Outcome
-    ensures answer { result ≡ entered_answer L.Line.room L.Line.read_as (seen_entry entry.entry) (means_by L.Line.read_as L.Line.held b.old) }
-    ensures within { Fits result }
-    ensures place { place.new ≡ entered_place L.Line.room L.Line.read_as (seen_entry entry.entry) place.old (means_by L.Line.read_as L.Line.held b.old) }
-    ensures after { means_by L.Line.read_as L.Line.held b.new ≡ entered_after L.Line.room L.Line.read_as (seen_entry entry.entry) (means_by L.Line.read_as L.Line.held b.old) }
-{
-    match entry {
-        Entry::Load { side, text } => match bring(b, side, text, place) {
-            Ok(n) => Outcome::Taken(n),
-            Err(stop) => Outcome::Stopped(stop),
-        },
-        Entry::Close(side) => closed(Outcome::Closed, b.close(side)),
-        Entry::Lose => closed(Outcome::Lost, b.lose()),
-    }
+    Ok(match entry {
+        Entry::Load { side, text } => Outcome::Taken(bring(b, side, text, place)?),
+        Entry::Close(side) => {
+            b.close(side)?;
+            Outcome::Closed
+        }
+        Entry::Lose => {
+            b.lose()?;
+            Outcome::Lost
+        }
+    })
 }

@@ -1,10 +1,10 @@
 use Rattle.std.specs.Prelude.{ℕ, cond, List, length, Some, None, Option, nat_le}
 use Rattle.lines.specs.declared.place.Place.{Place}
-use Rattle.lines.specs.Ussd.{held_in}
+use Rattle.terms.specs.Octets.{octets_of}
 use Rattle.direct.specs.declared.line.DirectLine.{DirectLine}
 
 abbrev pub held : DirectLine → List ℕ
-held l = held_in l.string
+held l = octets_of l.string
 
 -- a string stands as it is
 abbrev pub written : Place → List ℕ → List ℕ

@@ -4,6 +4,7 @@ ghost use Rattle.std.proofs.Common.{rules};
 use crate::line::DirectLine;
 use lines::line::Line;
 use lines::place::Place;
+use lines::ussd::{ROOM, Ussd};
 use terms::refusal::Refusal;
 
 impl Line for DirectLine {
@@ -18,19 +19,20 @@ impl Line for DirectLine {
     ghost lawful = { Prim.search rules };
 
     fn write(&mut self, _place: Place, string: &[u8]) -> Result<(), Refusal> {
-        self.string.set(string)
+        self.load(string)
     }
 
     fn holds(&self, count: usize) -> bool {
-        count <= 160
+        count <= ROOM
     }
 
     fn load(&mut self, raw: &[u8]) -> Result<(), Refusal> {
-        self.string.set(raw)
+        self.string = Ussd::of(raw).ok_or(Refusal::RawTooLong)?;
+        Ok(())
     }
 
-    fn read(&self, _place: Place, out: &mut [u8; 160]) -> Option<usize> {
-        Some(self.string.copy_to(out))
+    fn read(&self, _place: Place) -> Option<Ussd> {
+        Some(self.string)
     }
 
     fn raw(&self) -> &[u8] {

@@ -3,7 +3,9 @@
 
 mod form;
 mod line;
-mod made;
 
 pub use line::DirectLine;
-pub use made::{Direct, new};
+use lines::state::Carrier;
+
+// The direct bearer. A new one is `Direct::closed(latest, highest)`.
+pub type Direct = Carrier<DirectLine>;

@@ -1,48 +1,58 @@
-ghost use Rattle.std.specs.Prelude.{◌≡◌, length};
+ghost use Rattle.std.specs.Prelude.{◌≡◌, ◌≤◌, length, Some, None, if◌then◌else◌};
 ghost use Rattle.std.specs.Option.{option_map};
-ghost use Rattle.lines.specs.Line.{over};
-ghost use Rattle.gateway.specs.Form.{written as standing, read_as as read_back, framed, between};
+ghost use Rattle.terms.specs.Octets.{octets_of};
+ghost use Rattle.hex_text.specs.Hex.{unhex};
+ghost use Rattle.gateway.specs.Form.{written as standing, read_as as read_back, framed, middle, shortly, between};
 ghost use Rattle.gateway.specs.Row.{held_in};
 ghost use Rattle.gateway.specs.Form;
 ghost use Rattle.gateway.specs.Forms.{between_back, between_only, between_short};
 
 use crate::head::{head_of, tail};
-use crate::row::Row;
+use crate::row::{ROOM, Row};
 use hex_text::text::{decode, encode};
 use lines::line::Line;
 use lines::place::Place;
-use terms::octets::same;
+use lines::ussd::{self, Ussd};
+use terms::octets::Octets;
 use terms::refusal::Refusal;
 
-fn is_framed(front: &[u8], back: &[u8], line: &[u8]) -> bool
-    ensures { result ≡ framed front.now back.now line.now }
+// What stands on a line between its front and its back.
+fn inside<'a>(front: &[u8], back: &[u8], line: &'a [u8]) -> Option<&'a [u8]>
+    ensures { option_map (λ x. x.now) result ≡ (if framed front.now back.now line.now then Some (middle front.now back.now line.now) else None) }
 {
-    if front.len() > line.len() {
-        return false;
-    }
-    let room = line.len() - front.len();
-    if back.len() > room {
-        return false;
-    }
-    let end = line.len() - back.len();
-    same(&line[0..front.len()], front) && same(&line[end..], back)
+    line.strip_prefix(front)?.strip_suffix(back)
 }
 
-// The string that stands on a line between its front and its back, copied.
-fn string_in(front: &[u8], back: &[u8], line: &[u8], out: &mut [u8; 160]) -> Option<usize>
-    ensures answer { result ≡ option_map length (between front.now back.now line.now) }
-    ensures copied { out.new ≡ over (between front.now back.now line.now) out.old }
+// The octets of a USSD string in hexadecimal.
+fn unhexed(text: &[u8]) -> Option<Ussd>
+    ensures { option_map octets_of result ≡ shortly (unhex text.now) }
 {
-    if !is_framed(front, back, line) {
-        return None;
-    }
-    let end = line.len() - back.len();
-    match decode(&line[front.len()..end], out) {
-        Ok(n) => Some(n),
-        Err(_) => None,
-    }
+    let mut octets = [0; ussd::ROOM];
+    let count = decode(text, &mut octets).ok()?;
+    Ussd::of(&octets[..count])
 }
 
+fn string_in(front: &[u8], back: &[u8], line: &[u8]) -> Option<Ussd>
+    ensures { option_map octets_of result ≡ between front.now back.now line.now }
+{
+    unhexed(inside(front, back, line)?)
+}
+
+// How a string of up to 160 octets stands at a place.
+#[tactic(auto, using(hex_text::proofs::Hexes::hex_length))]
+fn line_of(place: Place, string: &[u8]) -> Octets<ROOM>
+    requires { length string.now ≤ 160 }
+    ensures { octets_of result ≡ standing place string.now }
+{
+    let mut text = [0; 2 * ussd::ROOM];
+    let count = encode(string, &mut text).unwrap();
+    let mut line = head_of(place);
+    line.append(&text[..count]).unwrap();
+    line.append(tail()).unwrap();
+    line
+}
+
+// `holds`, `load` and `raw` are those of the direct line but for the room. What they share is `Octets`; a type between would only pass calls on.
 impl Line for Row {
     ghost held = { held_in };
 
@@ -55,32 +65,27 @@ impl Line for Row {
     ghost lawful = { record { back = λ p xs l e. between_back (Form.head p) Form.tail xs l e; only = λ p ys xs w e. between_only (Form.head p) Form.tail ys xs e; short = λ p ys xs e. between_short (Form.head p) Form.tail ys xs e } };
 
     fn write(&mut self, place: Place, string: &[u8]) -> Result<(), Refusal> {
-        if string.len() > 160 {
+        if string.len() > ussd::ROOM {
             return Err(Refusal::RawTooLong);
         }
-        let mut text = [0u8; 320];
-        let _ = encode(string, &mut text);
-        let mut row = head_of(place);
-        row.append(&text[0..2 * string.len()]);
-        row.append(tail());
-        *self = row;
+        self.octets = line_of(place, string);
         Ok(())
     }
 
     fn holds(&self, count: usize) -> bool {
-        count <= 640
+        count <= ROOM
     }
 
     fn load(&mut self, raw: &[u8]) -> Result<(), Refusal> {
-        self.set(raw)
+        self.octets = Octets::of(raw).ok_or(Refusal::RawTooLong)?;
+        Ok(())
     }
 
-    fn read(&self, place: Place, out: &mut [u8; 160]) -> Option<usize> {
-        let head = head_of(place);
-        string_in(head.as_slice(), tail(), self.as_slice(), out)
+    fn read(&self, place: Place) -> Option<Ussd> {
+        string_in(head_of(place).as_slice(), tail(), self.raw())
     }
 
     fn raw(&self) -> &[u8] {
-        self.as_slice()
+        self.octets.as_slice()
     }
 }

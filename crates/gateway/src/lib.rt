@@ -3,8 +3,10 @@
 
 mod form;
 mod head;
-mod made;
 pub mod row;
-mod row_edits;
 
-pub use made::{Gateway, new};
+use lines::state::Carrier;
+use row::Row;
+
+// The gateway bearer. A new one is `Gateway::closed(latest, highest)`.
+pub type Gateway = Carrier<Row>;

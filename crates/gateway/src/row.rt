@@ -1,10 +1,10 @@
-ghost use Rattle.std.specs.Prelude.{◌≡◌, ◌≤◌, length};
+use terms::octets::Octets;
 
-// One line of a gateway, up to 640 octets.
-#[derive(Clone, Copy)]
+// How many octets a line has room for.
+pub(crate) const ROOM: usize = 640;
+
+// One line of a gateway.
+#[derive(Clone, Copy, Default)]
 pub struct Row {
-    pub(crate) octets: [u8; 640],
-    pub(crate) len: usize,
-    ghost full: { length octets ≡ 640 },
-    ghost within: { len ≤ 640 },
+    pub(crate) octets: Octets<ROOM>,
 }

@@ -1,20 +1,17 @@
 -- Hex keeps the law of a coding.
-use Rattle.std.specs.Prelude.{◌≡◌, ℕ, ◌*◌, ◌/◌, ◌%◌, ◌<◌, ◌≤◌, Bool, true, false, cond, ◌&&◌, List, [], ◌∷◌, Some, None, refl}
+use Rattle.std.specs.Prelude.{◌≡◌, ℕ, ◌*◌, ◌/◌, ◌%◌, ◌<◌, ◌≤◌, true, ◌&&◌, List, [], ◌∷◌, Some, refl}
 use Rattle.std.proofs.Common.{subst, arith}
 use Rattle.std.proofs.lemmas.Bool.{and_parts}
 use Rattle.std.proofs.lemmas.Bool.Decides.{nat_tests}
-use Rattle.coding.specs.Coding.{AtMost, Octets, Lawful}
+use Rattle.terms.specs.AtMost.{AtMost, Octets}
+use Rattle.coding.specs.Coding.{Lawful}
 use Rattle.hex_text.specs.Hex.{digit_of, hex_of, is_digit, is_hex, octets_in, unhex}
 use Rattle.hex_text.proofs.Hexes.{hex_length}
-use Rattle.hex_text.proofs.Laws.{Octets as Below256, value_small, hex_back, hex_only}
+use Rattle.hex_text.proofs.Laws.{value_small, unhex_is, hex_back, hex_only}
 
 -- how many characters so many octets have
 abbrev pub size : ℕ → ℕ
 size n = 2 * n
-
-below_256 : (xs : List ℕ) → Octets xs → Below256 xs
-below_256 [] o = tt
-below_256 (x ∷ xs) o = (omega (arith, o.0), below_256 xs o.1)
 
 octets_in_lem : (ys : List ℕ) → is_hex ys ≡ true → Octets (octets_in ys)
 octets_in_lem [] e = tt
@@ -24,14 +21,10 @@ octets_in_lem (c ∷ d ∷ cs) e =
     let q = and_parts (is_digit c) (is_digit d) p.0 in
     (omega (arith, value_small c q.0, value_small d q.1), octets_in_lem cs p.1)
 
-octets_by : (b : Bool) (xs zs : List ℕ) → (b ≡ true → Octets zs) → cond b (Some zs) None ≡ Some xs → Octets xs
-octets_by true xs zs h e =
-    let z : zs ≡ xs = cc in
-    subst Octets z (h refl)
-octets_by false xs zs h e = let z : ◌≡◌ {A = ℕ} 0 1 = cc in absurd (omega arith)
-
 only_octets : (ys xs : List ℕ) → unhex ys ≡ Some xs → Octets xs
-only_octets ys xs e = octets_by (is_hex ys) xs (octets_in ys) (octets_in_lem ys) e
+only_octets ys xs e =
+    let p = unhex_is ys xs e in
+    subst Octets p.1 (octets_in_lem ys p.0)
 
 digit_low : (v : ℕ) → v < 16 → digit_of v ≤ 70
 digit_low v h = grind (arith, nat_tests)
@@ -45,7 +38,7 @@ pub hex_lawful : Lawful 70 hex_of unhex size
 hex_lawful =
     record {
       small = omega arith;
-      back = λ xs o. hex_back xs (below_256 xs o);
+      back = hex_back;
       only = λ ys xs e. (only_octets ys xs e, hex_only ys xs e);
       sized = hex_length;
       none = refl;

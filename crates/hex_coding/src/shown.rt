@@ -13,7 +13,7 @@ pub struct Hex;
 impl Coding for Hex {
     const HIGHEST: u8 = 70;
 
-    ghost top = { 70 };
+    ghost HIGHEST = { 70 };
 
     ghost encoded = { λ s. hex_of };
 
@@ -22,10 +22,6 @@ impl Coding for Hex {
     ghost size = { λ s. size };
 
     ghost lawful = { λ c. hex_lawful };
-
-    fn top_octet(&self) -> u8 {
-        Self::HIGHEST
-    }
 
     fn most(&self, room: usize) -> usize {
         room / 2

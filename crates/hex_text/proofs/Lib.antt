@@ -1,3 +1,2 @@
-pub mod Decodes
 pub mod Hexes
 pub mod Laws

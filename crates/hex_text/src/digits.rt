@@ -1,5 +1,5 @@
-ghost use Rattle.std.specs.Prelude.{◌≡◌, ◌<◌, true};
-ghost use Rattle.hex_text.specs.Hex.{digit_of, is_digit, value_of, is_hex};
+ghost use Rattle.std.specs.Prelude.{◌≡◌, ◌<◌};
+ghost use Rattle.hex_text.specs.Hex.{digit_of, is_digit, digit_value, is_hex};
 
 // The character of a half octet.
 pub(crate) fn digit(value: u8) -> u8
@@ -13,31 +13,28 @@ pub(crate) fn digit(value: u8) -> u8
     }
 }
 
+// The half octet that a capital hexadecimal digit stands for.
+pub(crate) fn value(c: u8) -> Option<u8>
+    ensures { result ≡ digit_value c }
+{
+    match c {
+        b'0'..=b'9' => Some(c - b'0'),
+        b'A'..=b'F' => Some(c - b'A' + 10),
+        _ => None,
+    }
+}
+
 // Whether a character is a capital hexadecimal digit.
 pub fn is_digit(c: u8) -> bool
     ensures { result ≡ is_digit c }
 {
-    (c >= b'0' && c <= b'9') || (c >= b'A' && c <= b'F')
-}
-
-pub(crate) fn value(c: u8) -> u8
-    requires { is_digit c ≡ true }
-    ensures value { result ≡ value_of c }
-    ensures small { result < 16 }
-{
-    if c <= b'9' { c - b'0' } else { c - (b'A' - 10) }
+    value(c).is_some()
 }
 
 // Whether characters are an even count of capital hexadecimal digits.
+#[tactic(auto, using(crate::proofs::Hexes::hex_if_odd))]
 pub fn is_hex(text: &[u8]) -> bool
     ensures { result ≡ is_hex text.now }
 {
-    let mut rest = text;
-    while let [c, d, tail @ ..] = rest {
-        if !is_digit(*c) || !is_digit(*d) {
-            return false;
-        }
-        rest = tail;
-    }
-    rest.len() == 0
+    text.len() % 2 == 0 && text.iter().all(|c| is_digit(*c))
 }

@@ -1,6 +1,7 @@
 ghost use Rattle.std.specs.Prelude.{◌≡◌, ◌+◌, ◌*◌, ◌/◌, ◌≤◌, true, ◌++◌, length, drop};
 ghost use Rattle.terms.specs.Buffer.{answer_of, left_in};
-ghost use Rattle.hex_text.specs.Hex.{hex_of, is_hex, octets_in, unhex, decoded_by, decoded_in};
+ghost use Rattle.terms.specs.Decoded.{decoded_by, decoded_in};
+ghost use Rattle.hex_text.specs.Hex.{hex_of, is_hex, octets_in, unhex};
 
 use crate::digits::{digit, is_hex, value};
 use terms::cause::Cause;
@@ -8,17 +9,19 @@ use terms::fault::{Fault, Layer};
 use terms::refusal::Refusal;
 use terms::stop::Stop;
 
+#[tactic(auto, using(crate::proofs::Hexes::put_all))]
 fn put(octets: &[u8], out: &mut [u8])
     requires { length octets.now ≤ length out.old / 2 }
     ensures { out.new ≡ hex_of octets.now ++ drop (2 * length octets.now) out.old }
 {
-    for i in 0..octets.len() {
-        out[2 * i] = digit(octets[i] / 16);
-        out[2 * i + 1] = digit(octets[i] % 16);
+    for (i, octet) in octets.iter().enumerate() {
+        out[2 * i] = digit(octet / 16);
+        out[2 * i + 1] = digit(octet % 16);
     }
 }
 
 // Writes octets as characters; refused where the buffer does not hold them.
+#[tactic(auto, using(terms::proofs::Buffers::too_small, terms::proofs::Buffers::room, crate::proofs::Hexes::hex_length))]
 pub fn encode(octets: &[u8], out: &mut [u8]) -> Result<usize, Refusal>
     ensures answer { result ≡ answer_of (hex_of octets.now) out.old }
     ensures after { out.new ≡ left_in (hex_of octets.now) out.old }
@@ -35,8 +38,8 @@ fn put_octets(text: &[u8], out: &mut [u8])
     requires room { length text.now / 2 ≤ length out.old }
     ensures { out.new ≡ octets_in text.now ++ drop (length (octets_in text.now)) out.old }
 {
-    for i in 0..text.len() / 2 {
-        out[i] = value(text[2 * i]) * 16 + value(text[2 * i + 1]);
+    for (i, pair) in text.chunks_exact(2).enumerate() {
+        out[i] = value(pair[0]).unwrap() * 16 + value(pair[1]).unwrap();
     }
 }
 

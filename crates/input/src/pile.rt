@@ -1,6 +1,22 @@
-ghost use Rattle.std.specs.Prelude.{◌≡◌};
-ghost use Rattle.input.specs.Named.{named};
-ghost use Rattle.input.specs.Pile.{codings, piles};
+use std::error::Error;
+use std::fmt;
+use std::str::FromStr;
+
+// A word that names no coding.
+#[derive(Clone, Copy, PartialEq, Eq, Debug)]
+pub struct NoSuchCoding;
+
+impl fmt::Display for NoSuchCoding {
+    ghost use Rattle.std.specs.Prelude.{Some, codes};
+
+    ghost output = { λ _. Some (codes "no such coding") };
+
+    fn fmt<W: fmt::Write>(&self, f: &mut fmt::Formatter<W>) -> fmt::Result {
+        f.write_str("no such coding")
+    }
+}
+
+impl Error for NoSuchCoding {}
 
 // The codings that the program knows.
 #[derive(Clone, Copy, PartialEq, Eq, Debug)]
@@ -9,14 +25,21 @@ pub enum CodingName {
     Septets,
 }
 
-impl CodingName {
-    pub fn named(word: &str) -> Option<CodingName>
-        ensures { result ≡ named codings word.now }
-    {
+impl FromStr for CodingName {
+    type Err = NoSuchCoding;
+
+    ghost use Rattle.std.specs.Prelude.{◌≡◌};
+    ghost use Rattle.std.specs.Option.{ok_or};
+    ghost use Rattle.input.specs.Named.{named};
+    ghost use Rattle.input.specs.Pile.{codings};
+
+    ghost from_str_gives = { λ word r. r ≡ ok_or (named codings word) (record {}) };
+
+    fn from_str(word: &str) -> Result<CodingName, NoSuchCoding> {
         match word {
-            "hex" => Some(CodingName::Hex),
-            "septets" => Some(CodingName::Septets),
-            _ => None,
+            "hex" => Ok(CodingName::Hex),
+            "septets" => Ok(CodingName::Septets),
+            _ => Err(NoSuchCoding),
         }
     }
 }
@@ -29,19 +52,21 @@ pub enum Pile {
     Two(CodingName, CodingName),
 }
 
-impl Pile {
-    // The codings of a pile, joined by commas.
-    pub fn named(word: &str) -> Option<Pile>
-        ensures { result ≡ named piles word.now }
-    {
-        match word {
-            "hex" => Some(Pile::One(CodingName::Hex)),
-            "septets" => Some(Pile::One(CodingName::Septets)),
-            "hex,hex" => Some(Pile::Two(CodingName::Hex, CodingName::Hex)),
-            "hex,septets" => Some(Pile::Two(CodingName::Hex, CodingName::Septets)),
-            "septets,hex" => Some(Pile::Two(CodingName::Septets, CodingName::Hex)),
-            "septets,septets" => Some(Pile::Two(CodingName::Septets, CodingName::Septets)),
-            _ => None,
+// The codings of a pile, joined by a comma.
+impl FromStr for Pile {
+    type Err = NoSuchCoding;
+
+    ghost use Rattle.std.specs.Prelude.{◌≡◌};
+    ghost use Rattle.std.specs.Option.{ok_or};
+    ghost use Rattle.input.specs.Named.{named};
+    ghost use Rattle.input.specs.Pile.{piles};
+
+    ghost from_str_gives = { λ words r. r ≡ ok_or (named piles words) (record {}) };
+
+    fn from_str(words: &str) -> Result<Pile, NoSuchCoding> {
+        match words.split_once(',') {
+            None => Ok(Pile::One(words.parse()?)),
+            Some((low, high)) => Ok(Pile::Two(low.parse()?, high.parse()?)),
         }
     }
 }

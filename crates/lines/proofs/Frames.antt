@@ -1,21 +1,15 @@
 -- What is framed is read again.
-use Rattle.std.proofs.Common.{◌≡◌, ℕ, ◌+◌, ◌-◌, ◌≤◌, Bool, true, false, cond, ◌&&◌, eqb, leb, List, [], ◌∷◌, ◌++◌, length, get_or, take, Some, None, sym, refl, ap, ◌∙◌, append_assoc, one-add, arith, length-append, le-leb}
-use lib.Seq.{take-append_seam}
+use Rattle.std.proofs.Common.{◌≡◌, ℕ, ◌+◌, ◌-◌, ◌≤◌, true, cond, ◌&&◌, eqb, leb, List, [], ◌∷◌, ◌++◌, length, get_or, take, Some, None, sym, refl, ap, ◌∙◌, append_assoc, one-add, arith, length-append, le-leb}
+use lib.Seq.{take-append_seam, get_or-append_seam}
+use Rattle.std.proofs.lemmas.Bool.{and_parts}
 use Rattle.bearer.specs.Meaning.{digit, digits}
 use Rattle.lines.specs.Frame.{frame, run, middle, bounded, coded, code_digits}
-
-pub and_left : (a b : Bool) → (a && b) ≡ true → a ≡ true
-and_left true b e = refl
-and_left false b e = e
-
-pub and_right : (a b : Bool) → (a && b) ≡ true → b ≡ true
-and_right true b e = e
-and_right false b e = let z : false ≡ true = e in cc
 
 pub run_digits : (code ys : List ℕ) → digits code ≡ true → run (code ++ (0x2A ∷ ys)) ≡ length code
 run_digits [] ys h = refl
 run_digits (x ∷ xs) ys h =
-    ap (λ b. cond b (1 + run (xs ++ (0x2A ∷ ys))) 0) (and_left (digit x) (digits xs) h) ∙ ap (λ n. 1 + n) (run_digits xs ys (and_right (digit x) (digits xs) h)) ∙ one-add (length xs)
+    let p = and_parts (digit x) (digits xs) h in
+    ap (λ b. cond b (1 + run (xs ++ (0x2A ∷ ys))) 0) p.0 ∙ ap (λ n. 1 + n) (run_digits xs ys p.1) ∙ one-add (length xs)
 
 pub middle_frame : (code xs : List ℕ) → middle (frame code xs) ≡ code ++ (0x2A ∷ xs)
 middle_frame code xs =
@@ -24,16 +18,12 @@ middle_frame code xs =
     let n : length (frame code xs) - 1 - 2 ≡ length body = simp length-append (omega arith) in
     ap (λ k. take k (code ++ (0x2A ∷ (xs ++ (0x23 ∷ []))))) n ∙ ap (take (length body)) e ∙ take-append_seam body (0x23 ∷ [])
 
-get_or_seam : (xs ys : List ℕ) (y : ℕ) → get_or (xs ++ (y ∷ ys)) (length xs) 0 ≡ y
-get_or_seam [] ys y = refl
-get_or_seam (x ∷ xs) ys y = get_or_seam xs ys y
-
 last_frame : (code xs : List ℕ) → get_or (frame code xs) (length (frame code xs) - 1) 0 ≡ 0x23
 last_frame code xs =
     let front = 0x2A ∷ 0x23 ∷ (code ++ (0x2A ∷ xs)) in
     let e : frame code xs ≡ front ++ (0x23 ∷ []) = ap (λ z. 0x2A ∷ 0x23 ∷ z) (sym (append_assoc code (0x2A ∷ xs) (0x23 ∷ []))) in
     let n : length (frame code xs) - 1 ≡ length front = simp length-append (omega arith) in
-    ap (λ k. get_or (frame code xs) k 0) n ∙ ap (λ z. get_or z (length front) 0) e ∙ get_or_seam front [] 0x23
+    ap (λ k. get_or (frame code xs) k 0) n ∙ ap (λ z. get_or z (length front) 0) e ∙ get_or-append_seam front 0x23 [] 0
 
 bounded_frame : (code xs : List ℕ) → bounded (frame code xs) ≡ true
 bounded_frame code xs =
@@ -45,11 +35,8 @@ digits_frame code xs d lo hi =
     let b = bounded_frame code xs in
     let m = middle_frame code xs in
     let r : run (middle (frame code xs)) ≡ length code = ap run m ∙ run_digits code xs d in
-    let s : get_or (middle (frame code xs)) (length code) 0 ≡ 0x2A = ap (λ z. get_or z (length code) 0) m ∙ get_or_seam code xs 0x2A in
+    let s : get_or (middle (frame code xs)) (length code) 0 ≡ 0x2A = ap (λ z. get_or z (length code) 0) m ∙ get_or-append_seam code 0x2A xs 0 in
     let t : coded (length code) (middle (frame code xs)) ≡ true = ap (λ p. p && (leb (length code) 4 && eqb (get_or (middle (frame code xs)) (length code) 0) 0x2A)) (le-leb 2 (length code) lo) ∙ ap (λ p. p && eqb (get_or (middle (frame code xs)) (length code) 0) 0x2A) (le-leb (length code) 4 hi) ∙ ap (λ z. eqb z 0x2A) s in
     ap (λ p. cond (p && coded (run (middle (frame code xs))) (middle (frame code xs))) (Some (run (middle (frame code xs)))) None) b
     ∙ ap (λ k. cond (coded k (middle (frame code xs))) (Some k) None) r
     ∙ ap (λ p. cond p (Some (length code)) None) t
-
-pub built : (code xs a b d e f g : List ℕ) → a ≡ [] → b ≡ a ++ (0x2A ∷ []) → d ≡ b ++ (0x23 ∷ []) → e ≡ d ++ code → f ≡ e ++ (0x2A ∷ []) → g ≡ f ++ xs → g ++ (0x23 ∷ []) ≡ frame code xs
-built code xs a b d e f g p q r s t u = simp (u, t, s, r, q, p, append_assoc)

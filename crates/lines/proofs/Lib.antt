@@ -1,4 +1,2 @@
 pub mod Carries
 pub mod Frames
-pub mod Openings
-pub mod Reading

@@ -3,8 +3,9 @@ use Rattle.std.specs.Prelude.{◌≡◌, ℕ, ◌+◌, ◌≤◌, Bool, true, fa
 use Rattle.std.proofs.Common.{arith, length-take, leb-true}
 use Rattle.std.proofs.Math.Nat.{min-le_left}
 use Rattle.std.proofs.lemmas.Bool.{and_parts}
+use Rattle.std.specs.Option.{option_map}
 use Rattle.bearer.specs.declared.side.Side.TheVariants.{Mobile, Network}
-use Rattle.bearer.specs.declared.code.Code.{Code}
+use Rattle.terms.specs.declared.octets.Octets.{Octets}
 use Rattle.bearer.specs.Side.{highest_octet}
 use Rattle.bearer.specs.Meaning.{Dialogue, String, garbled, octets, low, code_in, string_in, Within, Figured, code_octets}
 use Rattle.lines.specs.declared.place.Place.{Place}
@@ -35,7 +36,7 @@ with_fit h code (octets xs) l w = (l, w)
 
 some_few : (b : Bool) (n k : ℕ) → cond b (Some n) None ≡ Some k → (b ≡ true) × (n ≡ k)
 some_few true n k e = (refl, cc)
-some_few false n k e = let z : ◌≡◌ {A = ℕ} 0 1 = cc in absurd (omega arith)
+some_few false n k e = cc
 
 -- a code has at most four digits
 digits_few : (zs : List ℕ) (k : ℕ) → code_digits zs ≡ Some k → k ≤ 4
@@ -47,7 +48,7 @@ digits_few zs k e =
     let f = leb-true n 4 (and_parts (nat_le n 4) (slice_index (middle zs) n == 0x2A) d).0 in
     omega (arith, f, p.1)
 
-by_fit : (h : ℕ) (zs : List ℕ) (o : Option ℕ) → code_digits zs ≡ o → Fit h (opens_by h (middle zs) o)
+by_fit : (h : ℕ) (zs : List ℕ) (o : Option ℕ) → code_digits zs ≡ o → Fit h (opens_by h (option_map (λ k. (take k (middle zs), drop (k + 1) (middle zs))) o))
 by_fit h zs None e = (omega arith, tt)
 by_fit h zs (Some k) e = with_fit h (take k (middle zs)) (heard_of h (Some (drop (k + 1) (middle zs)))) (take_few k (middle zs) (digits_few zs k e)) (heard_fit h (Some (drop (k + 1) (middle zs))))
 
@@ -62,8 +63,8 @@ phase_fit (Opening Mobile) code h o l = (omega arith, heard_fit h o)
 phase_fit (Opening Network) code h o l = opens_fit h o
 phase_fit (UnderWay s) code h o l = (l, heard_fit h o)
 
-code_few : (c : Code) → length (code_octets c) ≤ 4
-code_few c = take_few c.len c.octets c.within
+code_few : (c : Octets 4) → length (code_octets c) ≤ 4
+code_few c = take_few c.len c.cells c.within
 
 pub figured : {L : Type 0} (read_as : Place → List ℕ → Option (List ℕ)) (held : L → List ℕ) (b : Carrier L) → Figured (means_by read_as held b)
 figured read_as held b =

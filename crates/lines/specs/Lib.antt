@@ -1,5 +1,5 @@
 pub mod Frame
 pub mod Line
 pub mod State
-pub mod Ussd
 pub mod Figures
+pub mod Opened

@@ -1,4 +1,7 @@
-use Rattle.std.specs.Prelude.{◌≡◌, ℕ, ◌≤◌, true, List, ◌++◌, length, drop, Some, None, Option}
+use Rattle.std.specs.Prelude.{◌≡◌, ℕ, ◌≤◌, true, List, [], ◌∷◌, length, Some, Option, nat_le}
+use Rattle.terms.specs.declared.refusal.Refusal.{Refusal}
+use Rattle.terms.specs.Question.{Question}
+use Rattle.terms.specs.Refusal.{must}
 use Rattle.bearer.specs.Meaning.{low}
 use Rattle.lines.specs.declared.place.Place.{Place}
 
@@ -8,7 +11,6 @@ pub record LawfulLine (room : ℕ) (written : Place → List ℕ → List ℕ) (
   pub only : (p : Place) (ys xs : List ℕ) → low 255 ys ≡ true → read_as p ys ≡ Some xs → ys ≡ written p xs
   pub short : (p : Place) (ys xs : List ℕ) → read_as p ys ≡ Some xs → length xs ≤ 160
 
--- octets over the front of a place, those beyond kept
-abbrev pub over : Option (List ℕ) → List ℕ → List ℕ
-over None out = out
-over (Some xs) out = xs ++ drop (length xs) out
+-- is there room for octets?
+abbrev pub room_for : ℕ → List ℕ → List (Question Refusal)
+room_for room xs = must (nat_le (length xs) room) 29 ∷ []

@@ -1,5 +1,5 @@
 -- What a bearer that holds a line means: it is defined by reading the line.
-use Rattle.std.specs.Prelude.{ℕ, ◌+◌, Bool, true, false, cond, ◌&&◌, List, [], ◌∷◌, length, take, drop, Some, None, Option, nat_le, nat_lt}
+use Rattle.std.specs.Prelude.{ℕ, ◌+◌, Bool, true, false, cond, ◌&&◌, List, [], ◌∷◌, length, Some, None, Option, nat_le, nat_lt}
 use Rattle.terms.specs.declared.refusal.Refusal.{Refusal}
 use Rattle.terms.specs.Question.{Question, unless}
 use Rattle.terms.specs.Refusal.{must}
@@ -9,11 +9,12 @@ use Rattle.bearer.specs.declared.side.Highest.{Highest}
 use Rattle.bearer.specs.declared.side.Standing.{Standing}
 use Rattle.bearer.specs.Side.{other, highest_octet}
 use Rattle.bearer.specs.Meaning.{Meaning, Dialogue, closed, open_with, turn, under_way, String, garbled, octets, low, is_open, stand_of, turn_is, code_of, code_octets, last_number, with_dialogue, open_questions, give_questions}
+use Rattle.lines.specs.declared.line.Line.{Ghosts}
 use Rattle.lines.specs.declared.place.Place.{Place}
 use Rattle.lines.specs.declared.state.Phase.{Phase}
 use Rattle.lines.specs.declared.state.Phase.TheVariants.{Closed, Turn, Opening, UnderWay}
 use Rattle.lines.specs.declared.state.Carrier.{Carrier}
-use Rattle.lines.specs.Frame.{frame, code_digits, middle}
+use Rattle.lines.specs.Frame.{frame, parts}
 
 -- octets beyond a figure are garbled, and so is a line that has not the form
 abbrev pub heard_of : ℕ → Option (List ℕ) → String
@@ -25,14 +26,14 @@ abbrev pub opens_with : List ℕ → String → Dialogue
 opens_with code garbled = open_with [] (under_way Network garbled)
 opens_with code (octets xs) = open_with code (under_way Network (octets xs))
 
-abbrev pub opens_by : ℕ → List ℕ → Option ℕ → Dialogue
-opens_by h mid None = open_with [] (under_way Network garbled)
-opens_by h mid (Some k) = opens_with (take k mid) (heard_of h (Some (drop (k + 1) mid)))
+abbrev pub opens_by : ℕ → Option (List ℕ × List ℕ) → Dialogue
+opens_by h None = open_with [] (under_way Network garbled)
+opens_by h (Some p) = opens_with p.0 (heard_of h (Some p.1))
 
 -- a mobile's opening string stands as `*#`, the code, `*`, the octets, `#`
 abbrev pub opens : ℕ → Option (List ℕ) → Dialogue
 opens h None = open_with [] (under_way Network garbled)
-opens h (Some zs) = opens_by h (middle zs) (code_digits zs)
+opens h (Some zs) = opens_by h (parts zs)
 
 -- the dialogue in a phase, with what was read from the line; any string but a mobile's opening stands bare
 abbrev pub dialogue_in : Phase → List ℕ → ℕ → Option (List ℕ) → Dialogue
@@ -52,6 +53,10 @@ place_in (UnderWay s) n = record { opening = false; from = other s; number = n }
 abbrev pub in_phase : {L : Type 0} → Carrier L → Phase → ℕ → Carrier L
 in_phase b p n = record { line = b.line; code = b.code; phase = p; number = n; highest = b.highest }
 
+-- the string that stands on a carrier's line
+abbrev pub on_line : {L : Type 0} → Ghosts L → Carrier L → Option (List ℕ)
+on_line l b = l.read_as (place_in b.phase b.number) (l.held b.line)
+
 -- a form by its reading and by what stands on a line
 abbrev pub means_by : {L : Type 0} → (Place → List ℕ → Option (List ℕ)) → (L → List ℕ) → Carrier L → Meaning
 means_by read_as held b =
@@ -61,6 +66,10 @@ means_by read_as held b =
       number = b.number;
       dialogue = dialogue_in b.phase (code_octets b.code) (highest_octet b.highest) (read_as (place_in b.phase b.number) (held b.line));
     }
+
+-- and by all that a line's form tells of itself
+abbrev pub meaning_of : {L : Type 0} → Ghosts L → Carrier L → Meaning
+meaning_of l b = means_by l.read_as l.held b
 
 -- the string that an opening or a later one stands as
 abbrev pub stands_as : Side → List ℕ → List ℕ → List ℕ

@@ -1,22 +1,35 @@
-ghost use Rattle.std.specs.Prelude.{◌≡◌, ◌+◌, ◌<◌, ◌≤◌, length, Some, None};
-ghost use Rattle.lines.specs.Frame.{frame as framed_as, code_digits, run};
-ghost use Rattle.lines.specs.Ussd.{held_in};
+ghost use Rattle.std.specs.Prelude.{◌≡◌, ◌+◌, ◌≤◌, length};
+ghost use Rattle.std.specs.Option.{option_map};
+ghost use Rattle.terms.specs.Octets.{octets_of};
+ghost use Rattle.lines.specs.Frame.{frame as framed_as, parts, run};
+ghost use Rattle.lines.specs.State.{stands_as};
 
 use crate::ussd::Ussd;
+use bearer::side::Side;
 
 // A mobile's opening string: `*#`, the code, `*`, the octets, `#`.
-pub(crate) fn framed(code: &[u8], octets: &[u8]) -> Ussd
+fn framed(code: &[u8], octets: &[u8]) -> Ussd
     requires { (length code.now ≤ 4) × (length octets.now ≤ 152) }
-    ensures { held_in result ≡ framed_as code.now octets.now }
+    ensures { octets_of result ≡ framed_as code.now octets.now }
 {
-    let mut string = Ussd::empty();
-    string.push(b'*');
-    string.push(b'#');
-    string.append(code);
-    string.push(b'*');
-    string.append(octets);
-    string.push(b'#');
+    let mut string = Ussd::new();
+    string.append(b"*#").unwrap();
+    string.append(code).unwrap();
+    string.append(b"*").unwrap();
+    string.append(octets).unwrap();
+    string.append(b"#").unwrap();
     string
+}
+
+// The opening string of a side, as it stands.
+pub(crate) fn opening(side: Side, code: &[u8], octets: &[u8]) -> Ussd
+    requires { (length code.now ≤ 4) × (length octets.now ≤ 152) }
+    ensures { octets_of result ≡ stands_as side code.now octets.now }
+{
+    match side {
+        Side::Mobile => framed(code, octets),
+        Side::Network => Ussd::of(octets).unwrap(),
+    }
 }
 
 // How many digits stand at the front.
@@ -24,29 +37,19 @@ fn digit_run(xs: &[u8]) -> usize
     ensures run { result ≡ run xs.now }
     ensures within { result ≤ length xs.now }
 {
-    let mut k = 0;
-    for x in xs {
-        if *x < 0x30 || *x > 0x39 {
-            return k;
-        }
-        k += 1;
-    }
-    k
+    xs.iter().take_while(|x| x.is_ascii_digit()).count()
 }
 
-// How many digits the code has, in a string of the opening form.
-pub(crate) fn code_digits(s: &[u8]) -> Option<usize>
-    ensures value { result ≡ code_digits s.now }
-    ensures within { elim result [ None ↦ Unit {0} | Some k ↦ (k ≤ 4) × (k + 4 ≤ length s.now) ] }
+// The code and the octets, in a string of the opening form.
+pub(crate) fn parts(string: &[u8]) -> Option<(&[u8], &[u8])>
+    ensures { option_map (λ p. (p.0.now, p.1.now)) result ≡ parts string.now }
 {
-    if s.len() < 3 || s[0] != b'*' || s[1] != b'#' || s[s.len() - 1] != b'#' {
+    let [b'*', b'#', middle @ .., b'#'] = string else {
         return None;
-    }
-    let rest = &s[2..s.len() - 1];
-    let k = digit_run(rest);
-    if k >= 2 && k <= 4 && k < rest.len() && rest[k] == b'*' {
-        Some(k)
-    } else {
-        None
+    };
+    let (code, rest) = middle.split_at(digit_run(middle));
+    match rest {
+        [b'*', octets @ ..] if (2..=4).contains(&code.len()) => Some((code, octets)),
+        _ => None,
     }
 }

@@ -11,4 +11,3 @@ pub mod place;
 mod shown;
 pub mod state;
 pub mod ussd;
-mod ussd_edits;

@@ -1,7 +1,7 @@
 ghost use Rattle.std.specs.Prelude.{◌≡◌, ◌+◌, ◌<◌};
 ghost use Rattle.bearer.specs.Side.{other};
-ghost use Rattle.bearer.specs.Meaning.{with_dialogue, open_with, turn, closed, code_octets};
-ghost use Rattle.lines.specs.State.{means_by, in_phase};
+ghost use Rattle.bearer.specs.Meaning.{last_number, with_dialogue, open_with, turn, closed, code_octets};
+ghost use Rattle.lines.specs.State.{meaning_of, in_phase};
 
 use crate::line::Line;
 use crate::state::{Carrier, Phase};
@@ -12,7 +12,7 @@ use bearer::side::Side;
 impl<L: Line> Carrier<L> {
     // The next dialogue: a side opens it, for the other.
     pub(crate) fn opens_from(&mut self, side: Side)
-        requires { self.old.number < 4294967295 }
+        requires { self.old.number < last_number }
         ensures { self.new ≡ in_phase self.old (Phase.Opening (other side)) (self.old.number + 1) }
     {
         self.number += 1;
@@ -28,14 +28,14 @@ impl<L: Line> Carrier<L> {
 
     // A side has taken, and has the turn.
     pub(crate) fn turns_to(&mut self, side: Side, code: Code)
-        ensures { means_by L.Line.read_as L.Line.held self.new ≡ with_dialogue (means_by L.Line.read_as L.Line.held self.old) self.old.number (open_with (code_octets code) (turn side)) }
+        ensures { meaning_of L.Line self.new ≡ with_dialogue (meaning_of L.Line self.old) self.old.number (open_with (code_octets code) (turn side)) }
     {
         self.code = code;
         self.phase = Phase::Turn(side);
     }
 
     pub(crate) fn ends(&mut self)
-        ensures { means_by L.Line.read_as L.Line.held self.new ≡ with_dialogue (means_by L.Line.read_as L.Line.held self.old) self.old.number closed }
+        ensures { meaning_of L.Line self.new ≡ with_dialogue (meaning_of L.Line self.old) self.old.number closed }
     {
         self.phase = Phase::Closed;
     }

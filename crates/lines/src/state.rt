@@ -2,7 +2,7 @@ use bearer::code::Code;
 use bearer::side::{Highest, Side};
 
 // Where a dialogue is. `Opening` and `UnderWay` tell to whom the string on the line goes.
-#[derive(Clone, Copy)]
+#[derive(Clone, Copy, PartialEq, Eq, Debug)]
 pub enum Phase {
     Closed,
     Turn(Side),

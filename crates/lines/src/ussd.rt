@@ -1,10 +1,6 @@
-ghost use Rattle.std.specs.Prelude.{◌≡◌, ◌≤◌, length};
+use terms::octets::Octets;
 
-// A USSD string of up to 160 octets.
-#[derive(Clone, Copy)]
-pub struct Ussd {
-    pub(crate) octets: [u8; 160],
-    pub(crate) len: usize,
-    ghost full: { length octets ≡ 160 },
-    ghost within: { len ≤ 160 },
-}
+// How many octets a USSD string has room for.
+pub const ROOM: usize = 160;
+
+pub type Ussd = Octets<ROOM>;

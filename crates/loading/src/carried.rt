@@ -1,4 +1,4 @@
-ghost use Rattle.lines.specs.State.{means_by, load_questions, loaded};
+ghost use Rattle.lines.specs.State.{meaning_of, load_questions, loaded};
 
 use crate::shown::Loads;
 use bearer::side::Side;
@@ -7,13 +7,12 @@ use lines::state::Carrier;
 use terms::refusal::Refusal;
 
 impl<L: Line> Loads for Carrier<L> {
-    ghost load_asks = { λ s side raw. load_questions L.Line.room side raw (means_by L.Line.read_as L.Line.held s) };
+    ghost load_asks = { λ s side raw. load_questions L.Line.room side raw (meaning_of L.Line s) };
 
-    ghost load_means = { λ s side raw. loaded L.Line.read_as side raw (means_by L.Line.read_as L.Line.held s) };
+    ghost load_means = { λ s side raw. loaded L.Line.read_as side raw (meaning_of L.Line s) };
 
-    fn load_raw(self, side: Side, raw: &[u8]) -> (Carrier<L>, Result<(), Refusal>) {
-        let mut lowest = self;
-        let r = lowest.load(side, raw);
-        (lowest, r)
+    fn load_raw(mut self, side: Side, raw: &[u8]) -> (Carrier<L>, Result<(), Refusal>) {
+        let answer = self.load(side, raw);
+        (self, answer)
     }
 }

@@ -13,7 +13,7 @@ impl<B: Loads, C: Coding> Loads for Coded<B, C> {
 
     fn load_raw(self, side: Side, raw: &[u8]) -> (Coded<B, C>, Result<(), Refusal>) {
         let (below, coding) = self.into_parts();
-        let (below, r) = below.load_raw(side, raw);
-        (Coded::new(below, coding), r)
+        let (below, answer) = below.load_raw(side, raw);
+        (Coded::new(below, coding), answer)
     }
 }

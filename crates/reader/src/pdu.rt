@@ -1,13 +1,16 @@
 ghost use Rattle.std.specs.Prelude.{◌≡◌, ◌+◌, ◌≤◌, length, IfOk, Ok, slice_index};
 ghost use Rattle.terms.specs.Question.{told};
 ghost use Rattle.wire.specs.Format.{Stands};
-ghost use Rattle.wire.specs.Pdu.{Read, seen_pdu, seen, start_questions, exact_questions, code_questions, address_questions, field_size, told_form, data_form, long_form, ready_form, error_form, release_form, reading};
+ghost use Rattle.wire.specs.Pdu.{Read, seen_pdu, seen, start_questions, exact_questions, address_questions, field_size, told_form, data_form, long_form, ready_form, reading};
+ghost use Rattle.reader.specs.Code.{IsCodeIn};
+ghost use Rattle.reader.specs.Opening.{seen_opening};
 
 use crate::body::carried_at;
-use addresses::lawful::stands;
+use addresses::lawful::size;
 use terms::cause::Cause;
 use terms::fault::{Fault, Layer};
-use wire::code::{ErrorCode, ReleaseCode};
+use wire::kind::Kind;
+use wire::no_such_number::NoSuchNumber;
 use wire::pdu::{Part, Pdu};
 
 fn fault(cause: Cause, place: usize) -> Fault
@@ -20,24 +23,21 @@ fn fault(cause: Cause, place: usize) -> Fault
     }
 }
 
-// The first octet, with version, type and flag in order.
-fn opening(s: &[u8]) -> Result<u8, Fault>
-    ensures { result ≡ told (start_questions s.now) (slice_index s.now 0) }
+// The type and the flag in the first octet, whose version is 0.
+fn opening(s: &[u8]) -> Result<(Kind, bool), Fault>
+    ensures { seen_opening result ≡ told (start_questions s.now) (slice_index s.now 0) }
 {
-    let [first, ..] = s else {
-        return Err(fault(Cause::Empty, s.len()));
+    let Some(&first) = s.first() else {
+        return Err(fault(Cause::Empty, 0));
     };
-    if *first >= 32 {
+    if first >= 32 {
         return Err(fault(Cause::Version, 0));
     }
-    let kind = *first / 2;
-    if kind < 1 || kind > 5 {
-        return Err(fault(Cause::Kind, 0));
+    let more = first % 2 == 1;
+    match Kind::try_from(first / 2) {
+        Ok(kind) if !more || matches!(kind, Kind::Data | Kind::DataLong) => Ok((kind, more)),
+        _ => Err(fault(Cause::Kind, 0)),
     }
-    if kind > 2 && *first % 2 == 1 {
-        return Err(fault(Cause::Kind, 0));
-    }
-    Ok(*first)
 }
 
 // The string has exactly `n` octets.
@@ -54,19 +54,15 @@ fn exactly(n: usize, s: &[u8]) -> Result<(), Fault>
 }
 
 // The code octet of an Error or a release.
-fn code(s: &[u8]) -> Result<u8, Fault>
-    ensures { result ≡ told (code_questions s.now) (slice_index s.now 1) }
+fn code<C: TryFrom<u8, Error = NoSuchNumber>>(s: &[u8]) -> Result<C, Fault>
+    ensures { IsCodeIn C.try_from_gives s.now result }
 {
-    if s.len() < 2 {
-        return Err(fault(Cause::OctetCount, s.len()));
+    exactly(2, s)?;
+    // No `map_err`: the check does not follow the answer of a type parameter through it.
+    match C::try_from(s[1]) {
+        Ok(code) => Ok(code),
+        Err(NoSuchNumber) => Err(fault(Cause::Kind, 1)),
     }
-    if s.len() > 2 {
-        return Err(fault(Cause::OctetCount, 2));
-    }
-    if s[1] > 3 {
-        return Err(fault(Cause::Kind, 1));
-    }
-    Ok(s[1])
 }
 
 // The size of the address field, which begins at place 1.
@@ -75,31 +71,26 @@ fn address_size(s: &[u8]) -> Result<usize, Fault>
     ensures answer { result ≡ told (address_questions s.now) (field_size s.now) }
     ensures within { IfOk result (λ n. 1 + n ≤ length s.now) }
 {
-    let rest = &s[1..];
-    if !stands(rest) {
-        return Err(fault(Cause::AddressField, 1));
-    }
-    Ok(1 + rest[0] as usize % 32)
+    size(&s[1..]).ok_or(fault(Cause::AddressField, 1))
 }
 
-fn data<'a>(s: &'a [u8], more: bool) -> Result<Pdu<'a>, Fault>
-    requires { 1 ≤ length s.now }
+fn data(s: &[u8], more: bool) -> Result<Pdu<'_>, Fault>
     ensures { seen result ≡ told_form (data_form more s.now) }
 {
     let body = carried_at(s, 1)?;
     Ok(Pdu::Data { more, body })
 }
 
-fn data_long<'a>(s: &'a [u8], more: bool) -> Result<Pdu<'a>, Fault>
+fn data_long(s: &[u8], more: bool) -> Result<Pdu<'_>, Fault>
     requires { 1 ≤ length s.now }
     ensures { seen result ≡ told_form (long_form more s.now) }
 {
     let n = address_size(s)?;
-    let body = carried_at(s, 1 + n)?;
     let address = Part {
         place: 1,
         octets: &s[1..1 + n],
     };
+    let body = carried_at(s, 1 + n)?;
     Ok(Pdu::DataLong {
         more,
         address,
@@ -107,44 +98,29 @@ fn data_long<'a>(s: &'a [u8], more: bool) -> Result<Pdu<'a>, Fault>
     })
 }
 
-fn ready<'a>(s: &'a [u8]) -> Result<Pdu<'a>, Fault>
+fn ready(s: &[u8]) -> Result<Pdu<'_>, Fault>
     ensures { seen result ≡ told_form (ready_form s.now) }
 {
     exactly(1, s)?;
     Ok(Pdu::Ready)
 }
 
-fn error<'a>(s: &'a [u8]) -> Result<Pdu<'a>, Fault>
-    ensures { seen result ≡ told_form (error_form s.now) }
-{
-    let n = code(s)?;
-    Ok(Pdu::Error(ErrorCode::numbered(n).unwrap_or(ErrorCode::Unknown)))
-}
-
-fn release<'a>(s: &'a [u8]) -> Result<Pdu<'a>, Fault>
-    ensures { seen result ≡ told_form (release_form s.now) }
-{
-    let n = code(s)?;
-    Ok(Pdu::Release(ReleaseCode::numbered(n).unwrap_or(ReleaseCode::Unknown)))
-}
-
-fn by_kind<'a>(s: &'a [u8]) -> Result<Pdu<'a>, Fault>
+fn by_kind(s: &[u8]) -> Result<Pdu<'_>, Fault>
     ensures { seen result ≡ reading s.now }
 {
-    let first = opening(s)?;
-    let more = first % 2 == 1;
-    match first / 2 {
-        1 => data(s, more),
-        2 => data_long(s, more),
-        3 => ready(s),
-        4 => error(s),
-        _ => release(s),
+    let (kind, more) = opening(s)?;
+    match kind {
+        Kind::Data => data(s, more),
+        Kind::DataLong => data_long(s, more),
+        Kind::Ready => ready(s),
+        Kind::Error => Ok(Pdu::Error(code(s)?)),
+        Kind::Release => Ok(Pdu::Release(code(s)?)),
     }
 }
 
 // The PDU that a string holds, or the first rule that it breaks. What is read keeps every rule of the format, and every
 // string that keeps them is read as the PDU that it is.
-pub fn read<'a>(s: &'a [u8]) -> Result<Pdu<'a>, Fault>
+pub fn read(s: &[u8]) -> Result<Pdu<'_>, Fault>
     ensures answer { seen result ≡ reading s.now }
     ensures sound { IfOk result (λ p. Stands s.now (seen_pdu p)) }
     ensures complete { (p : Read) → Stands s.now p → seen result ≡ Ok p }

@@ -1,47 +1,75 @@
-use bearer::Bearer;
-use bearer::side::Side;
+use crate::call::Call;
+use bearer::side::{Highest, Side};
 use lines::line::Line;
 use lines::state::Carrier;
 
-// The number of the latest dialogue with which the bearer of a state is made.
-pub(crate) fn latest(state: u8) -> u32 {
-    if state == 1 { u32::MAX } else { 7 }
+// A state of a bearer: the number of the latest dialogue with which it is made, and the calls that bring it there.
+#[derive(Clone, Copy)]
+pub(crate) struct State {
+    pub(crate) name: &'static str,
+    latest: u32,
+    calls: &'static [Call],
 }
 
-pub(crate) fn name(state: u8) -> &'static str {
-    match state {
-        0 => "closed",
-        1 => "closed at the last number",
-        2 => "under way to network",
-        3 => "turn with network",
-        4 => "under way to mobile",
-        5 => "turn with mobile",
-        6 => "garbled to network",
-        _ => "lost",
-    }
-}
+const OPENS: Call = Call::Open(Side::Mobile, b"138", &[6]);
 
-// Brings a new bearer into a state.
-pub(crate) fn bring<L: Line>(b: &mut Carrier<L>, state: u8) {
-    let mut place = [0u8; 160];
-    if state == 6 {
-        let _ = b.load(Side::Mobile, b"?");
-        return;
-    }
-    if state < 2 {
-        return;
-    }
-    let _ = b.open(Side::Mobile, b"138", &[6]);
-    if state == 7 {
-        let _ = b.lose();
-    }
-    if state == 3 || state == 4 || state == 5 {
-        let _ = b.take(Side::Network, &mut place);
-    }
-    if state == 4 || state == 5 {
-        let _ = b.give(Side::Network, &[10, 3]);
-    }
-    if state == 5 {
-        let _ = b.take(Side::Mobile, &mut place);
+const GIVES: Call = Call::Give(Side::Network, &[10, 3]);
+
+pub(crate) const STATES: [State; 8] = [
+    State {
+        name: "closed",
+        latest: 7,
+        calls: &[],
+    },
+    State {
+        name: "closed at the last number",
+        latest: u32::MAX,
+        calls: &[],
+    },
+    State {
+        name: "under way to network",
+        latest: 7,
+        calls: &[OPENS],
+    },
+    State {
+        name: "turn with network",
+        latest: 7,
+        calls: &[OPENS, Call::Take(Side::Network)],
+    },
+    State {
+        name: "under way to mobile",
+        latest: 7,
+        calls: &[OPENS, Call::Take(Side::Network), GIVES],
+    },
+    State {
+        name: "turn with mobile",
+        latest: 7,
+        calls: &[
+            OPENS,
+            Call::Take(Side::Network),
+            GIVES,
+            Call::Take(Side::Mobile),
+        ],
+    },
+    State {
+        name: "garbled to network",
+        latest: 7,
+        calls: &[Call::Load(Side::Mobile, b"?")],
+    },
+    State {
+        name: "lost",
+        latest: 7,
+        calls: &[OPENS, Call::Lose],
+    },
+];
+
+impl State {
+    // A new bearer, brought into the state.
+    pub(crate) fn bearer<L: Line + Default>(self) -> Carrier<L> {
+        let mut b = Carrier::closed(self.latest, Highest::Seven);
+        for call in self.calls {
+            let _ = call.make(&mut b, &mut [0; 160]);
+        }
+        b
     }
 }

@@ -4,7 +4,7 @@ use Rattle.terms.specs.Question.{Question}
 use Rattle.wire.specs.Header.{ports_kind, segment_kind}
 use Rattle.rules.specs.declared.header_rule.HeaderRule.{HeaderRule}
 use Rattle.rules.specs.declared.header_rule.HeaderRule.TheVariants as rule
-use Rattle.rules.specs.AddressRules.{must}
+pub use Rattle.addresses.specs.AddressRules.{must}
 
 -- reference, count and sequence, with 1 <= sequence <= count
 abbrev pub segment_questions : List ℕ → List (Question HeaderRule)

@@ -1,4 +1,3 @@
-pub mod AddressRules
 pub mod HeaderRules
 pub mod Places
 pub mod Rules

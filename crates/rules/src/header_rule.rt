@@ -5,9 +5,10 @@ ghost use Rattle.wire.specs.Header.{fine_of};
 ghost use Rattle.rules.specs.HeaderRules.{segment_questions, content_questions, element_questions, length_questions};
 
 use std::fmt;
+use wire::header::{PORTS, SEGMENT};
 
 // What is wrong with a header.
-#[derive(Clone, Copy)]
+#[derive(Clone, Copy, PartialEq, Eq, Debug)]
 pub enum HeaderRule {
     Missing,
     Overrun { length: u8, left: usize },
@@ -42,24 +43,20 @@ fn segment_rule(octets: &[u8]) -> Option<HeaderRule>
     None
 }
 
-// What is wrong with a whole element of a type; nothing exactly where it is fine.
+// What is wrong with a whole element of a type; nothing exactly where it is fine. A type is any octet, so it is no enum: two have names.
 pub fn content_rule(kind: u8, octets: &[u8]) -> Option<HeaderRule>
     ensures first { result ≡ first_no (content_questions kind octets.now) }
     ensures agrees { is_some result ≡ not (fine_of kind octets.now) }
 {
     match kind {
-        0x05 => {
-            if octets.len() == 4 {
-                return None;
-            }
-            Some(HeaderRule::PortsLength(octets.len()))
-        }
-        0x00 => segment_rule(octets),
+        PORTS => (octets.len() != 4).then_some(HeaderRule::PortsLength(octets.len())),
+        SEGMENT => segment_rule(octets),
         _ => None,
     }
 }
 
-// What is wrong with the element at the head of a header's octets, if anything.
+// What is wrong with the element at the head of a header's octets, if anything. Asked of octets: what overruns its header is no `Element`
+// that could tell its length.
 pub fn element_rule(rest: &[u8]) -> Option<HeaderRule>
     ensures { result ≡ first_no (element_questions rest.now) }
 {

@@ -1,17 +1,17 @@
 ghost use Rattle.std.specs.Prelude.{◌≡◌};
-ghost use Rattle.rules.specs.Rules.{cause_of};
+ghost use Rattle.rules.specs.Rules.{cause_of, OfCause};
 
-use crate::address_rule::{AddressRule, broken_in};
 use crate::header_rule::{HeaderRule, element_rule, length_rule};
 use crate::octet::header_place;
+use addresses::rule::{AddressRule, broken_in};
 use std::fmt;
 use terms::cause::Cause;
 use terms::fault::Fault;
+use wire::elements::Elements;
 use wire::kind::Kind;
-use wording::kind::{kind_of, pdu_name};
 
 // The rule that a string breaks.
-#[derive(Clone, Copy)]
+#[derive(Clone, Copy, PartialEq, Eq, Debug)]
 pub enum Rule {
     Empty,
     Version(u8),
@@ -25,78 +25,69 @@ pub enum Rule {
     Other(Cause),
 }
 
-fn kind_rule(s: &[u8], place: usize) -> Rule
-    ensures { cause_of result ≡ Cause.Kind }
+fn kind_rule(s: &[u8], place: usize) -> Option<Rule>
+    ensures { OfCause Cause.Kind result }
 {
-    let [first, tail @ ..] = s else {
-        return Rule::Other(Cause::Kind);
-    };
-    let Some(kind) = kind_of(*first) else {
-        return Rule::NoType(*first / 2);
+    let (first, tail) = s.split_first()?;
+    let Ok(kind) = Kind::try_from(*first / 2) else {
+        return Some(Rule::NoType(*first / 2));
     };
     match tail {
-        [code, ..] if place == 1 => Rule::NoCode { kind, code: *code },
-        _ => Rule::MoreToSend(kind),
+        [code, ..] if place == 1 => Some(Rule::NoCode { kind, code: *code }),
+        _ => Some(Rule::MoreToSend(kind)),
     }
 }
 
-fn count_rule(s: &[u8]) -> Rule
-    ensures { cause_of result ≡ Cause.OctetCount }
+fn count_rule(s: &[u8]) -> Option<Rule>
+    ensures { OfCause Cause.OctetCount result }
 {
-    let [first, tail @ ..] = s else {
-        return Rule::Other(Cause::OctetCount);
-    };
-    let Some(kind) = kind_of(*first) else {
-        return Rule::Other(Cause::OctetCount);
-    };
+    let (first, tail) = s.split_first()?;
+    let kind = Kind::try_from(*first / 2).ok()?;
     if tail.is_empty() {
-        return Rule::CodeMissing(kind);
+        return Some(Rule::CodeMissing(kind));
     }
-    Rule::TooMany(kind)
+    Some(Rule::TooMany(kind))
 }
 
-fn field_rule(s: &[u8]) -> Rule
-    ensures { cause_of result ≡ Cause.AddressField }
+fn field_rule(s: &[u8]) -> Option<Rule>
+    ensures { OfCause Cause.AddressField result }
 {
-    let [_first, tail @ ..] = s else {
-        return Rule::Other(Cause::AddressField);
-    };
-    match broken_in(tail) {
-        Some(rule) => Rule::Address(rule),
-        None => Rule::Other(Cause::AddressField),
-    }
+    let (_, field) = s.split_first()?;
+    broken_in(field).map(Rule::Address)
 }
 
-// The octets from a place on; none where the place is beyond them.
-fn from(s: &[u8], place: usize) -> &[u8] {
-    if place > s.len() {
-        return &s[s.len()..];
+// What is left, from a place behind its length octet on, of the header that begins at `header`.
+fn header_left(s: &[u8], header: usize, place: usize) -> Option<&[u8]> {
+    let end = Elements::of(s, header)?.end();
+    if place <= header {
+        return None;
     }
-    &s[place..]
+    s.get(place..end)
 }
 
-// What is left of the header at the element of a place.
-fn header_left(s: &[u8], header: usize, place: usize) -> &[u8] {
-    let [len, tail @ ..] = from(s, header) else {
-        return s;
-    };
-    let n = *len as usize;
-    if n > tail.len() || place <= header {
-        return s;
-    }
-    from(&tail[0..n], place - header - 1)
-}
-
-fn header_rule(s: &[u8], place: usize) -> Rule
-    ensures { cause_of result ≡ Cause.Header }
+fn header_rule(s: &[u8], place: usize) -> Option<Rule>
+    ensures { OfCause Cause.Header result }
 {
     let header = header_place(s);
     if place == header {
-        return Rule::Header(length_rule(from(s, header)));
+        let octets = s.get(header..).unwrap_or(&[]);
+        return Some(Rule::Header(length_rule(octets)));
     }
-    match element_rule(header_left(s, header, place)) {
-        Some(rule) => Rule::Header(rule),
-        None => Rule::Other(Cause::Header),
+    element_rule(header_left(s, header, place)?).map(Rule::Header)
+}
+
+// The rule that a fault of a cause, at a place of a string, broke; none where the string has no such fault.
+fn broken_rule(s: &[u8], cause: Cause, place: usize) -> Option<Rule>
+    ensures { OfCause cause result }
+{
+    match cause {
+        Cause::Empty => Some(Rule::Empty),
+        Cause::Version => Some(Rule::Version(*s.first()? / 32)),
+        Cause::Kind => kind_rule(s, place),
+        Cause::OctetCount => count_rule(s),
+        Cause::AddressField => field_rule(s),
+        Cause::Header => header_rule(s, place),
+        _ => None,
     }
 }
 
@@ -105,26 +96,14 @@ impl Rule {
     pub fn behind(s: &[u8], fault: Fault) -> Rule
         ensures { cause_of result ≡ fault.cause }
     {
-        match fault.cause {
-            Cause::Empty => Rule::Empty,
-            Cause::Version => match s {
-                [first, ..] => Rule::Version(*first / 32),
-                _ => Rule::Other(Cause::Version),
-            },
-            Cause::Kind => kind_rule(s, fault.place),
-            Cause::OctetCount => count_rule(s),
-            Cause::AddressField => field_rule(s),
-            Cause::Header => header_rule(s, fault.place),
-            other => Rule::Other(other),
-        }
+        broken_rule(s, fault.cause, fault.place).unwrap_or(Rule::Other(fault.cause))
     }
 }
 
 fn show_too_many<W: fmt::Write>(kind: Kind, f: &mut fmt::Formatter<W>) -> fmt::Result {
-    let name = pdu_name(kind);
     match kind {
-        Kind::Ready => write!(f, "{name} has no octets behind the first"),
-        _ => write!(f, "{name} has one code octet behind the first, and no more"),
+        Kind::Ready => write!(f, "{kind} has no octets behind the first"),
+        _ => write!(f, "{kind} has one code octet behind the first, and no more"),
     }
 }
 
@@ -135,24 +114,19 @@ impl fmt::Display for Rule {
             Rule::Version(n) => write!(f, "version {n}, and only version 0 is known"),
             Rule::NoType(n) => write!(f, "no PDU type {n}: types are 1 to 5"),
             Rule::MoreToSend(kind) => {
-                let name = pdu_name(kind);
                 write!(
                     f,
-                    "more to send is set in {name}: only Data and Data_Long may set it"
+                    "more to send is set in {kind}: only Data and Data_Long may set it"
                 )
             }
             Rule::TooMany(kind) => show_too_many(kind, f),
             Rule::CodeMissing(kind) => {
-                let name = pdu_name(kind);
                 write!(
                     f,
-                    "{name} has a code octet behind the first, and it is missing"
+                    "{kind} has a code octet behind the first, and it is missing"
                 )
             }
-            Rule::NoCode { kind, code } => {
-                let name = pdu_name(kind);
-                write!(f, "no {name} code {code}: codes are 0 to 3")
-            }
+            Rule::NoCode { kind, code } => { write!(f, "no {kind} code {code}: codes are 0 to 3") }
             Rule::Address(rule) => write!(f, "{rule}"),
             Rule::Header(rule) => write!(f, "{rule}"),
             Rule::Other(cause) => write!(f, "{cause}"),

@@ -1,5 +1,5 @@
 -- Sessions are in step with the bearer.
-use Rattle.std.proofs.Common.{◌≡◌, ℕ, Bool, true, false, eqb, ◌⊎◌, List, [], ◌∷◌, length, Some, None, Ok, Err, Option, Result, sym, refl, ap, ◌∙◌, inl, inr, arith, eq-eqb, eqb-true}
+use Rattle.std.proofs.Common.{◌≡◌, ℕ, Bool, true, false, eqb, ◌⊎◌, List, [], ◌∷◌, length, Some, None, Ok, Err, Option, Result, sym, refl, ap, ◌∙◌, inl, inr, rules, eq-eqb, eqb-true}
 use Rattle.std.specs.Result.{result_map_both}
 use Rattle.terms.specs.declared.refusal.Refusal.{Refusal}
 use Rattle.terms.specs.declared.refusal.Refusal.TheVariants.{NotOpen}
@@ -14,9 +14,8 @@ use Rattle.bearer.specs.declared.side.Side.TheVariants.{Mobile, Network}
 use Rattle.bearer.specs.declared.side.Standing.TheVariants.{Closed, Turn, UnderWay}
 use Rattle.bearer.specs.Side.{same, other}
 use Rattle.bearer.specs.Meaning.{Meaning, Dialogue, closed, open_with, turn, String, garbled, octets, standing_in, stand_of, is_open_in, code_of, string_of, turn_is, is_for, fit_asks, with_dialogue, open_questions, opens_next, open_answer, open_after, give_questions, gives_next, give_answer, give_after, take_questions, taken_by, heard, over, take_answer, take_place, take_after, close_questions, close_answer, close_after}
-use Rattle.session.specs.declared.state.Speaking.{Speaking}
-use Rattle.session.specs.declared.state.Listening.{Listening}
-use Rattle.session.specs.Sessions.{before, taken, listens, speaks, opens, begins, give_in, give_left, take_in, place_in, take_left, close_in, close_left}
+use Rattle.session.specs.declared.state.Session.{Session}
+use Rattle.session.specs.Sessions.{Speaking, Listening, session_in, before, taken, listens, speaks, opens, begins, give_in, give_left, take_in, place_in, take_left, close_in, close_left}
 use Rattle.session.specs.Laws.{HasTurn, HasGiven, MovesOn, Stays, Free}
 
 -- a call that was accepted: the numbers agree, and the bearer said so
@@ -27,9 +26,9 @@ record Done {A X : Type 0} (b : Bool) (r : Result A Refusal) (next : A → X) (x
   is : x ≡ next value
 
 done : {A X Y : Type 0} (b : Bool) (r : Result A Refusal) (next : A → X) (stay : Y) (x : X) → result_map_both {D = Refusal × Y} next (λ why. (why, stay)) (before (first_no (must b 26 ∷ [])) r) ≡ Ok x → Done b r next x
-done true (Ok a) next stay x e = let z : x ≡ next a = cc in record { agree = refl; value = a; said = refl; is = z }
-done true (Err w) next stay x e = let z : ◌≡◌ {A = ℕ} 0 1 = cc in absurd (omega arith)
-done false r next stay x e = let z : ◌≡◌ {A = ℕ} 0 1 = cc in absurd (omega arith)
+done true (Ok a) next stay x e = record { agree = refl; value = a; said = refl; is = cc }
+done true (Err w) next stay x e = absurd (search rules)
+done false r next stay x e = absurd (search rules)
 
 -- one that was refused: the session stays, and the numbers differ or the bearer refused
 record Refused {A Y : Type 0} (b : Bool) (r : Result A Refusal) (stay t : Y) (why : Refusal) : Type 0 where
@@ -37,15 +36,15 @@ record Refused {A Y : Type 0} (b : Bool) (r : Result A Refusal) (stay t : Y) (wh
   by : (b ≡ false) ⊎ ((b ≡ true) × (r ≡ Err why))
 
 refused : {A X Y : Type 0} (b : Bool) (r : Result A Refusal) (next : A → X) (stay t : Y) (why : Refusal) → result_map_both {D = Refusal × Y} next (λ w. (w, stay)) (before (first_no (must b 26 ∷ [])) r) ≡ Err (why, t) → Refused b r stay t why
-refused true (Ok a) next stay t why e = let z : ◌≡◌ {A = ℕ} 0 1 = cc in absurd (omega arith)
+refused true (Ok a) next stay t why e = absurd (search rules)
 refused {Y = Y} true (Err w) next stay t why e =
     let z : ◌≡◌ {A = Refusal × Y} (why, t) (w, stay) = cc in
     record { same_session = ap (λ p. p.1) z; by = inr (refl, sym (ap (λ p. Err p.0) z)) }
 refused {Y = Y} false r next stay t why e = let z : ◌≡◌ {A = Refusal × Y} (why, t) (NotOpen, stay) = cc in record { same_session = ap (λ p. p.1) z; by = inl refl }
 
 begun_ok : {A X : Type 0} (r : Result A Refusal) (next : A → X) (x : X) → result_map_both next (λ why. why) r ≡ Ok x → Done true r next x
-begun_ok (Ok a) next x e = let z : x ≡ next a = cc in record { agree = refl; value = a; said = refl; is = z }
-begun_ok (Err w) next x e = let z : ◌≡◌ {A = ℕ} 0 1 = cc in absurd (omega arith)
+begun_ok (Ok a) next x e = record { agree = refl; value = a; said = refl; is = cc }
+begun_ok (Err w) next x e = absurd (search rules)
 
 -- what is left: the bearer's own, or all as it was
 left_new : {A : Type 0} (b : Bool) (new old : A) → b ≡ true → unless (must b 26 ∷ []) new old ≡ new
@@ -78,13 +77,13 @@ close_stays m why e = sym (refused_unless (close_questions m) why (tt {0}) (with
 
 taken_yes : (o : Option Refusal) (s : Option String) (h : Result ℕ Fault) → taken (taken_by o s) ≡ Ok h → o ≡ None
 taken_yes None s h e = refl
-taken_yes (Some r) s h e = let z : ◌≡◌ {A = ℕ} 0 1 = cc in absurd (omega arith)
+taken_yes (Some r) s h e = cc
 
 taken_no : (o : Option Refusal) (s : Option String) (why : Refusal) → taken (taken_by o s) ≡ Err why → o ≡ Some why
-taken_no None None why e = let z : ◌≡◌ {A = ℕ} 0 1 = cc in absurd (omega arith)
-taken_no None (Some garbled) why e = let z : ◌≡◌ {A = ℕ} 0 1 = cc in absurd (omega arith)
-taken_no None (Some (octets xs)) why e = let z : ◌≡◌ {A = ℕ} 0 1 = cc in absurd (omega arith)
-taken_no (Some r) s why e = let z : r ≡ why = cc in ap Some z
+taken_no None None why e = cc
+taken_no None (Some garbled) why e = cc
+taken_no None (Some (octets xs)) why e = cc
+taken_no (Some r) s why e = cc
 
 abbrev turned : Side → Meaning → Meaning
 turned side m = with_dialogue m m.number (open_with (code_of m) (turn side))
@@ -101,13 +100,13 @@ take_stays side place m why e =
 
 opened : (side : Side) (code xs : List ℕ) (m : Meaning) (l : Listening) → opens side code xs m ≡ Ok l → HasGiven l (open_after side code xs m)
 opened side code xs m l e =
-    let d = begun_ok (open_answer side code xs m) (λ _. record { number = (open_after side code xs m).number; side = side }) l e in
+    let d = begun_ok (open_answer side code xs m) (λ _. session_in (open_after side code xs m).number side) l e in
     let n : open_after side code xs m ≡ opens_next side code xs m = open_done side code xs m d.said in
     record { dialogue = sym (ap (λ v. v.number) d.is); given = ap stand_of n ∙ sym (ap (λ v. UnderWay (other v.side)) d.is) }
 
 begun : (side : Side) (m : Meaning) (heard : Result ℕ Fault) (s : Speaking) → begins side m ≡ Ok (heard, s) → HasTurn s (take_after side m)
 begun side m h s e =
-    let d = begun_ok (taken (take_answer side m)) (λ v. (v, record { number = (take_after side m).number; side = side })) (h, s) e in
+    let d = begun_ok (taken (take_answer side m)) (λ v. (v, session_in (take_after side m).number side)) (h, s) e in
     let n = take_done side m d.value d.said in
     record { dialogue = sym (ap (λ p. p.1.number) d.is); turn = ap stand_of n ∙ sym (ap (λ p. Turn p.1.side) d.is) }
 
@@ -129,13 +128,13 @@ took l m h s e =
       turn = ap stand_of n ∙ sym (ap (λ p. Turn p.1.side) d.is);
     }
 
-ended : {S : Type 0} (s : S) (n : ℕ) (m : Meaning) → close_in s n m ≡ Ok tt → stand_of (close_left n m) ≡ Closed
-ended s n m e =
-    let d = done (eqb m.number n) (close_answer m) (λ _. tt {0}) s (tt {0}) e in
-    ap stand_of (left_new (eqb m.number n) (close_after m) m d.agree ∙ close_done m d.said)
+ended : {T : Type 0} (s : Session T) (m : Meaning) → close_in s m ≡ Ok tt → stand_of (close_left s m) ≡ Closed
+ended s m e =
+    let d = done (eqb m.number s.number) (close_answer m) (λ _. tt {0}) s (tt {0}) e in
+    ap stand_of (left_new (eqb m.number s.number) (close_after m) m d.agree ∙ close_done m d.said)
 
 pub moves_on : MovesOn
-moves_on = record { opened = opened; begun = begun; given = given; taken = took; closed_speaking = λ s. ended s s.number; closed_listening = λ l. ended l l.number }
+moves_on = record { opened = opened; begun = begun; given = given; taken = took; closed_speaking = ended; closed_listening = ended }
 
 give_refused : (s t : Speaking) (xs : List ℕ) (m : Meaning) (why : Refusal) → give_in s xs m ≡ Err (why, t) → (t ≡ s) × (give_left s xs m ≡ m)
 give_refused s t xs m why e =
@@ -150,21 +149,21 @@ take_refused l t place m why e =
       left_old (eqb m.number l.number) (take_after l.side m) m (elim d.by [ inl n ↦ inl n | inr p ↦ inr (p.0, (take_stays l.side place m why p.1).1) ]),
     )
 
-close_refused : {S : Type 0} (s t : S) (n : ℕ) (m : Meaning) (why : Refusal) → close_in s n m ≡ Err (why, t) → (t ≡ s) × (close_left n m ≡ m)
-close_refused s t n m why e =
-    let d = refused (eqb m.number n) (close_answer m) (λ _. tt {0}) s t why e in
-    (d.same_session, left_old (eqb m.number n) (close_after m) m (elim d.by [ inl k ↦ inl k | inr p ↦ inr (p.0, close_stays m why p.1) ]))
+close_refused : {T : Type 0} (s t : Session T) (m : Meaning) (why : Refusal) → close_in s m ≡ Err (why, t) → (t ≡ s) × (close_left s m ≡ m)
+close_refused s t m why e =
+    let d = refused (eqb m.number s.number) (close_answer m) (λ _. tt {0}) s t why e in
+    (d.same_session, left_old (eqb m.number s.number) (close_after m) m (elim d.by [ inl k ↦ inl k | inr p ↦ inr (p.0, close_stays m why p.1) ]))
 
 pub stays : Stays
-stays = record { give = give_refused; take = take_refused; close_speaking = λ s t. close_refused s t s.number; close_listening = λ l t. close_refused l t l.number }
+stays = record { give = give_refused; take = take_refused; close_speaking = close_refused; close_listening = close_refused }
 
 -- a dialogue with a turn or a string is open
 turn_open : (d : Dialogue) (side : Side) → standing_in d ≡ Turn side → is_open_in d ≡ true
-turn_open closed side e = let z : ◌≡◌ {A = ℕ} 0 1 = cc in absurd (omega arith)
+turn_open closed side e = cc
 turn_open (open_with c s) side e = refl
 
 string_open : (d : Dialogue) (side : Side) → standing_in d ≡ UnderWay side → is_open_in d ≡ true
-string_open closed side e = let z : ◌≡◌ {A = ℕ} 0 1 = cc in absurd (omega arith)
+string_open closed side e = cc
 string_open (open_with c s) side e = refl
 
 same_side : (side : Side) → same side side ≡ true

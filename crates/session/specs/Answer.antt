@@ -5,9 +5,7 @@ use Rattle.terms.specs.declared.refusal.Refusal.{Refusal}
 use Rattle.terms.specs.declared.fault.Fault.{Fault}
 use Rattle.bearer.specs.declared.side.Side.{Side}
 use Rattle.bearer.specs.Meaning.{Meaning, take_after}
-use Rattle.session.specs.declared.state.Speaking.{Speaking}
-use Rattle.session.specs.declared.state.Listening.{Listening}
-use Rattle.session.specs.Sessions.{begins, give_in, give_left, close_left}
+use Rattle.session.specs.Sessions.{Speaking, Listening, begins, give_in, give_left, close_left}
 
 -- what was heard, and the session that then listens; a refusal of either call is the answer
 abbrev pub given_back : Result (Result ℕ Fault × Speaking) Refusal → List ℕ → Meaning → Result (Result ℕ Fault × Listening) Refusal
@@ -20,7 +18,7 @@ answer_once side xs m = given_back (begins side m) xs (take_after side m)
 -- a session that is handed back closes the dialogue
 abbrev pub closed_if : Result Listening (Refusal × Speaking) → Meaning → Meaning
 closed_if (Ok l) m = m
-closed_if (Err e) m = close_left e.1.number m
+closed_if (Err e) m = close_left e.1 m
 
 abbrev pub left_by : Result (Result ℕ Fault × Speaking) Refusal → List ℕ → Meaning → Meaning
 left_by (Ok p) xs m = closed_if (give_in p.1 xs m) (give_left p.1 xs m)

@@ -8,9 +8,7 @@ use Rattle.bearer.specs.declared.side.Side.{Side}
 use Rattle.bearer.specs.declared.side.Standing.TheVariants.{Closed, Turn, UnderWay}
 use Rattle.bearer.specs.Side.{other}
 use Rattle.bearer.specs.Meaning.{Meaning, stand_of, fit_asks, open_after, take_after}
-use Rattle.session.specs.declared.state.Speaking.{Speaking}
-use Rattle.session.specs.declared.state.Listening.{Listening}
-use Rattle.session.specs.Sessions.{listens, speaks, opens, begins, give_in, give_left, take_in, place_in, take_left, close_in, close_left}
+use Rattle.session.specs.Sessions.{Speaking, Listening, listens, speaks, opens, begins, give_in, give_left, take_in, place_in, take_left, close_in, close_left}
 
 -- in the session's dialogue, the turn is with its side
 pub record HasTurn (s : Speaking) (m : Meaning) : Type 0 where
@@ -28,15 +26,15 @@ pub record MovesOn : Type 0 where
   pub begun : (side : Side) (m : Meaning) (heard : Result ℕ Fault) (s : Speaking) → begins side m ≡ Ok (heard, s) → HasTurn s (take_after side m)
   pub given : (s : Speaking) (xs : List ℕ) (m : Meaning) (l : Listening) → give_in s xs m ≡ Ok l → HasGiven l (give_left s xs m)
   pub taken : (l : Listening) (m : Meaning) (heard : Result ℕ Fault) (s : Speaking) → take_in l m ≡ Ok (heard, s) → HasTurn s (take_left l m)
-  pub closed_speaking : (s : Speaking) (m : Meaning) → close_in s s.number m ≡ Ok tt → stand_of (close_left s.number m) ≡ Closed
-  pub closed_listening : (l : Listening) (m : Meaning) → close_in l l.number m ≡ Ok tt → stand_of (close_left l.number m) ≡ Closed
+  pub closed_speaking : (s : Speaking) (m : Meaning) → close_in s m ≡ Ok tt → stand_of (close_left s m) ≡ Closed
+  pub closed_listening : (l : Listening) (m : Meaning) → close_in l m ≡ Ok tt → stand_of (close_left l m) ≡ Closed
 
 -- a refused call hands the same session back, and alters nothing
 pub record Stays : Type 0 where
   pub give : (s t : Speaking) (xs : List ℕ) (m : Meaning) (why : Refusal) → give_in s xs m ≡ Err (why, t) → (t ≡ s) × (give_left s xs m ≡ m)
   pub take : (l t : Listening) (place : List ℕ) (m : Meaning) (why : Refusal) → take_in l m ≡ Err (why, t) → (t ≡ l) × (place_in l place m ≡ place) × (take_left l m ≡ m)
-  pub close_speaking : (s t : Speaking) (m : Meaning) (why : Refusal) → close_in s s.number m ≡ Err (why, t) → (t ≡ s) × (close_left s.number m ≡ m)
-  pub close_listening : (l t : Listening) (m : Meaning) (why : Refusal) → close_in l l.number m ≡ Err (why, t) → (t ≡ l) × (close_left l.number m ≡ m)
+  pub close_speaking : (s t : Speaking) (m : Meaning) (why : Refusal) → close_in s m ≡ Err (why, t) → (t ≡ s) × (close_left s m ≡ m)
+  pub close_listening : (l t : Listening) (m : Meaning) (why : Refusal) → close_in l m ≡ Err (why, t) → (t ≡ l) × (close_left l m ≡ m)
 
 -- who has the turn is refused a give for its string alone, and who has a string waiting is refused no take
 pub record Free : Type 0 where

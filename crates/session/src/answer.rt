@@ -2,11 +2,9 @@ ghost use Rattle.std.specs.Prelude.{◌≡◌};
 ghost use Rattle.bearer.specs.Meaning.{take_place};
 ghost use Rattle.session.specs.Answer.{answer_once, once_left};
 
-use crate::shared::Session;
-use crate::state::{Listening, Speaking};
+use crate::state::{Heard, Listening, Speaking};
 use bearer::Bearer;
 use bearer::side::Side;
-use terms::fault::Fault;
 use terms::refusal::Refusal;
 
 // Takes the string that waits for a side and gives one back. Where the bearer does not carry that one, the dialogue is closed.
@@ -15,7 +13,7 @@ pub fn answer_once<B: Bearer>(
     side: Side,
     place: &mut [u8; 160],
     octets: &[u8],
-) -> Result<(Result<usize, Fault>, Listening), Refusal>
+) -> Result<(Heard, Listening), Refusal>
     ensures answer { result ≡ answer_once side octets.now (B.meaning b.old) }
     ensures place { place.new ≡ take_place side place.old (B.meaning b.old) }
     ensures after { B.meaning b.new ≡ once_left side octets.now (B.meaning b.old) }

@@ -1,5 +1,5 @@
-// Sessions: one side's place in a dialogue of any bearer, as a value. A session that speaks can only give, one that listens
-// can only take; each call spends it, and hands back the next one or, with the refusal, the same.
+// Sessions: one side's place in a dialogue of any bearer, as a value whose type tells whether it speaks or listens. Each
+// call spends it, and hands back the next one or, with the refusal, the same.
 #![tactic(auto)]
 
 mod answer;
@@ -11,4 +11,4 @@ pub mod state;
 
 pub use answer::answer_once;
 pub use laws::sessions_in_step;
-pub use shared::Session;
+pub use state::Session;

@@ -1,12 +1,11 @@
 ghost use Rattle.std.specs.Prelude.{◌≡◌};
 ghost use Rattle.bearer.specs.Meaning.{open_after};
-ghost use Rattle.session.specs.Sessions.{speaks, opens, take_in, place_in, take_left};
+ghost use Rattle.session.specs.Sessions.{opens, take_in, place_in, take_left};
 
-use crate::shared::{Session, sorted};
-use crate::state::{Listening, Speaking};
+use crate::shared::sorted;
+use crate::state::{Heard, Listening, Speaking};
 use bearer::Bearer;
 use bearer::side::Side;
-use terms::fault::Fault;
 use terms::refusal::Refusal;
 
 impl Listening {
@@ -21,8 +20,7 @@ impl Listening {
         ensures after { B.meaning b.new ≡ open_after side code.now octets.now (B.meaning b.old) }
     {
         b.open(side, code, octets)?;
-        let number = b.number();
-        Ok(Listening { number, side })
+        Ok(Listening::new(b.number(), side))
     }
 
     // Takes the string that waits; of a garbled one too the turn is then here.
@@ -30,7 +28,7 @@ impl Listening {
         self,
         b: &mut B,
         place: &mut [u8; 160],
-    ) -> Result<(Result<usize, Fault>, Speaking), (Refusal, Listening)>
+    ) -> Result<(Heard, Speaking), (Refusal, Listening)>
         ensures answer { result ≡ take_in self (B.meaning b.old) }
         ensures place { place.new ≡ place_in self place.old (B.meaning b.old) }
         ensures after { B.meaning b.new ≡ take_left self (B.meaning b.old) }
@@ -42,30 +40,5 @@ impl Listening {
             Ok(heard) => Ok((heard, self.turned())),
             Err(why) => Err((why, self)),
         }
-    }
-
-    fn turned(self) -> Speaking
-        ensures { result ≡ speaks self }
-    {
-        let Listening { number, side } = self;
-        Speaking { number, side }
-    }
-}
-
-impl Session for Listening {
-    ghost number_of = { λ s. s.number };
-
-    ghost side_of = { λ s. s.side };
-
-    fn number(&self) -> u32 {
-        self.number
-    }
-
-    fn side(&self) -> Side {
-        self.side
-    }
-
-    fn abandon(self) {
-        let Listening { number: _, side: _ } = self;
     }
 }

@@ -1,38 +1,67 @@
-ghost use Rattle.std.specs.Prelude.{◌≡◌, ℕ};
-ghost use Rattle.bearer.specs.declared.side.Side.{Side};
-ghost use Rattle.session.specs.Sessions.{taken, close_in, close_left};
+ghost use Rattle.std.specs.Prelude.{◌≡◌};
+ghost use Rattle.session.specs.Sessions.{taken, session_in, in_turn, close_in, close_left};
 
+use crate::state::{Heard, Session};
 use bearer::Bearer;
 use bearer::side::Side;
-use terms::fault::Fault;
+use std::marker::PhantomData;
 use terms::refusal::Refusal;
 use terms::stop::Stop;
 
-// What both sessions share.
-pub trait Session: Sized {
-    ghost number_of: { Self → ℕ };
+// What a session does whoever has the turn. A refusal hands the session back, so its calls match where a `?` would lose it.
+impl<T> Session<T> {
+    pub(crate) fn new(number: u32, side: Side) -> Session<T>
+        ensures { result ≡ session_in number side }
+    {
+        Session {
+            number,
+            side,
+            turn: PhantomData,
+        }
+    }
 
-    ghost side_of: { Self → Side };
+    pub(crate) fn turned<U>(self) -> Session<U>
+        ensures { result ≡ in_turn self }
+    {
+        let Session {
+            number,
+            side,
+            turn: _,
+        } = self;
+        Session::new(number, side)
+    }
 
     // The dialogue's number.
-    fn number(&self) -> u32
-        ensures { result ≡ number_of self.now };
+    pub fn number(&self) -> u32
+        ensures { result ≡ self.now.number }
+    {
+        self.number
+    }
 
-    fn side(&self) -> Side
-        ensures { result ≡ side_of self.now };
+    pub fn side(&self) -> Side
+        ensures { result ≡ self.now.side }
+    {
+        self.side
+    }
 
     // Spends a session whose dialogue is gone. No bearer is touched.
-    fn abandon(self);
+    pub fn abandon(self) {
+        let Session {
+            number: _,
+            side: _,
+            turn: _,
+        } = self;
+    }
 
     // Ends the session's dialogue.
-    fn close<B: Bearer>(self, b: &mut B) -> Result<(), (Refusal, Self)>
-        ensures answer { result ≡ close_in self (number_of self) (B.meaning b.old) }
-        ensures after { B.meaning b.new ≡ close_left (number_of self) (B.meaning b.old) }
+    pub fn close<B: Bearer>(self, b: &mut B) -> Result<(), (Refusal, Session<T>)>
+        ensures answer { result ≡ close_in self (B.meaning b.old) }
+        ensures after { B.meaning b.new ≡ close_left self (B.meaning b.old) }
     {
-        if b.number() != self.number() {
+        if b.number() != self.number {
             return Err((Refusal::NotOpen, self));
         }
-        match b.close(self.side()) {
+        match b.close(self.side) {
             Ok(()) => {
                 self.abandon();
                 Ok(())
@@ -43,7 +72,8 @@ pub trait Session: Sized {
 }
 
 // A garbled string was taken too; only a refusal leaves it where it is.
-pub(crate) fn sorted(answer: Result<usize, Stop>) -> Result<Result<usize, Fault>, Refusal>
+// Not a `From`: both types are of std and terms, and a `?` would turn what was heard into an error.
+pub(crate) fn sorted(answer: Result<usize, Stop>) -> Result<Heard, Refusal>
     ensures { result ≡ taken answer }
 {
     match answer {

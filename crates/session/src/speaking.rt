@@ -1,12 +1,11 @@
 ghost use Rattle.std.specs.Prelude.{◌≡◌};
 ghost use Rattle.bearer.specs.Meaning.{take_place, take_after};
-ghost use Rattle.session.specs.Sessions.{listens, begins, give_in, give_left};
+ghost use Rattle.session.specs.Sessions.{begins, give_in, give_left};
 
-use crate::shared::{Session, sorted};
-use crate::state::{Listening, Speaking};
+use crate::shared::sorted;
+use crate::state::{Heard, Listening, Speaking};
 use bearer::Bearer;
 use bearer::side::Side;
-use terms::fault::Fault;
 use terms::refusal::Refusal;
 
 impl Speaking {
@@ -15,14 +14,13 @@ impl Speaking {
         b: &mut B,
         side: Side,
         place: &mut [u8; 160],
-    ) -> Result<(Result<usize, Fault>, Speaking), Refusal>
+    ) -> Result<(Heard, Speaking), Refusal>
         ensures answer { result ≡ begins side (B.meaning b.old) }
         ensures place { place.new ≡ take_place side place.old (B.meaning b.old) }
         ensures after { B.meaning b.new ≡ take_after side (B.meaning b.old) }
     {
         let heard = sorted(b.take(side, place))?;
-        let number = b.number();
-        Ok((heard, Speaking { number, side }))
+        Ok((heard, Speaking::new(b.number(), side)))
     }
 
     // Sends octets to the other side.
@@ -37,30 +35,5 @@ impl Speaking {
             Ok(()) => Ok(self.turned()),
             Err(why) => Err((why, self)),
         }
-    }
-
-    fn turned(self) -> Listening
-        ensures { result ≡ listens self }
-    {
-        let Speaking { number, side } = self;
-        Listening { number, side }
-    }
-}
-
-impl Session for Speaking {
-    ghost number_of = { λ s. s.number };
-
-    ghost side_of = { λ s. s.side };
-
-    fn number(&self) -> u32 {
-        self.number
-    }
-
-    fn side(&self) -> Side {
-        self.side
-    }
-
-    fn abandon(self) {
-        let Speaking { number: _, side: _ } = self;
     }
 }

@@ -1,14 +1,24 @@
 use bearer::side::Side;
+use std::marker::PhantomData;
+use terms::fault::Fault;
 
-// A side that has the turn in the dialogue of a number. Neither session is `Drop` or `Copy`: it is spent by a call, by
-// `close` or by `abandon`.
-pub struct Speaking {
+// The side has the turn: it can only give.
+pub struct Speaks;
+
+// The side waits for a string: it can only take.
+pub struct Listens;
+
+// A side in the dialogue of a number, `T` telling what it can do there. A session is neither `Drop` nor `Copy`: it is spent
+// by a call, by `close` or by `abandon`.
+pub struct Session<T> {
     pub(crate) number: u32,
     pub(crate) side: Side,
+    pub(crate) turn: PhantomData<T>,
 }
 
-// A side that waits for a string in the dialogue of a number.
-pub struct Listening {
-    pub(crate) number: u32,
-    pub(crate) side: Side,
-}
+pub type Speaking = Session<Speaks>;
+
+pub type Listening = Session<Listens>;
+
+// How many octets were taken, or what a garbled string is at fault for.
+pub type Heard = Result<usize, Fault>;

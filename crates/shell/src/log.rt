@@ -1,95 +1,75 @@
-use crate::log_words::{Heading, told};
-use crate::options::Form;
-use bearer::Bearer;
-use console::line::{Line as Input, Reason, read_line, without_end};
-use dialogue_log::enter::{Outcome, enter};
+use crate::input::answer_each;
+use crate::options::Options;
+use crate::player::Player;
+use console::line::{Line as Text, Reason, read_line, without_end};
 use dialogue_log::entry::{Entry, entry_of};
+use direct::DirectLine;
+use gateway::row::Row;
 use lines::line::Line;
-use lines::state::Carrier;
 use std::alloc::{AllocError, Global};
+use std::fmt::Display;
 use std::io;
-use std::io::{BufRead, BufReader};
 use terms::refusal::Refusal;
-use terms::stop::Stop;
 
-fn bad_line(heap: Global, number: u64, why: &str) -> Result<String, AllocError> {
+// A kind of line, with the form in which a log of it gives the raw strings.
+pub(crate) trait Logged: Line + Default + Drop {
+    // Plays an entry that stands in the input line with a number.
+    fn played(
+        player: &mut Player<Self>,
+        number: u64,
+        entry: Entry<'_>,
+    ) -> Result<String, AllocError>;
+}
+
+fn bad_line(heap: Global, number: u64, why: impl Display + Drop) -> Result<String, AllocError> {
     format!(in heap; "refused input line {number}: {why}\n")
 }
 
-// What an entry comes to, with the number and the code as they then stand.
-fn played<L: Line>(
-    heap: Global,
-    b: &mut Carrier<L>,
-    entry: Entry<'_>,
-) -> Result<String, AllocError> {
-    let mut place = [0u8; 160];
-    let outcome = enter(b, entry, &mut place);
-    let heading = Heading {
-        number: b.number(),
-        code: b.code(),
-    };
-    told(heap, heading, outcome, &place)
-}
-
-// An entry whose raw string is given in hex. More than 160 octets are more than a line holds.
-fn played_hex<L: Line>(
-    heap: Global,
-    b: &mut Carrier<L>,
-    number: u64,
-    entry: Entry<'_>,
-) -> Result<String, AllocError> {
-    let Entry::Load { side, text } = entry else {
-        return played(heap, b, entry);
-    };
-    match read_line(heap, text)? {
-        Input::String(raw) => {
-            let entry = Entry::Load {
-                side,
-                text: raw.as_slice(),
-            };
-            played(heap, b, entry)
-        }
-        Input::Refused(Reason::TooLong) => {
-            let heading = Heading {
-                number: b.number(),
-                code: b.code(),
-            };
-            let outcome = Outcome::Stopped(Stop::Refused(Refusal::RawTooLong));
-            told(heap, heading, outcome, &[0; 160])
-        }
-        Input::Refused(Reason::OddCount) => bad_line(heap, number, "odd count of hex digits"),
-        _ => bad_line(heap, number, "not hex"),
+// A gateway's line is given as it stands.
+impl Logged for Row {
+    fn played(player: &mut Player<Row>, _: u64, entry: Entry<'_>) -> Result<String, AllocError> {
+        player.played(entry)
     }
 }
 
-fn answered<L: Line>(
-    heap: Global,
-    b: &mut Carrier<L>,
-    form: Form,
+// A raw USSD string is given in hex. More than 160 octets are more than a line holds.
+impl Logged for DirectLine {
+    fn played(
+        player: &mut Player<DirectLine>,
+        number: u64,
+        entry: Entry<'_>,
+    ) -> Result<String, AllocError> {
+        let Entry::Load { side, text } = entry else {
+            return player.played(entry);
+        };
+        match read_line(player.heap, text)? {
+            Text::String(raw) => {
+                let text = raw.as_slice();
+                player.played(Entry::Load { side, text })
+            }
+            Text::Refused(Reason::TooLong) => player.result_line(Err(Refusal::RawTooLong.into())),
+            Text::Refused(reason) => bad_line(player.heap, number, reason),
+            Text::PassedOver => bad_line(player.heap, number, Reason::NotHex),
+        }
+    }
+}
+
+fn answered<L: Logged>(
+    player: &mut Player<L>,
     number: u64,
     line: &[u8],
 ) -> Result<String, AllocError> {
-    let Some(entry) = entry_of(without_end(line)) else {
-        return bad_line(heap, number, "no such entry");
-    };
-    match form {
-        Form::Gateway => played(heap, b, entry),
-        Form::Direct => played_hex(heap, b, number, entry),
+    match entry_of(without_end(line)) {
+        Some(entry) => L::played(player, number, entry),
+        None => bad_line(player.heap, number, "no such entry"),
     }
 }
 
-// Plays each line of standard input as it comes.
-pub(crate) fn log<L: Line>(rt: &HostRuntime, b: &mut Carrier<L>, form: Form) -> io::Result<()> {
-    let heap = rt.alloc();
-    let mut input = BufReader::new(heap, rt.stdin())?;
-    let mut line = Vec::new(heap);
-    for number in 1..u64::MAX {
-        line.clear();
-        if input.read_until(b'\n', &mut line)? == 0 {
-            break;
-        }
-        let text = answered(heap, b, form, number, line.as_slice())?;
-        print!(rt; "{text}")?;
-    }
-    Ok(())
+// Plays each line of standard input on a new bearer.
+pub(crate) fn log<L: Logged>(
+    rt: &(impl Input + Print + AllocGlobal),
+    asked: Options,
+) -> io::Result<()> {
+    let mut player = Player::<L>::new(rt.alloc(), asked);
+    answer_each(rt, |number, line| answered(&mut player, number, line))
 }

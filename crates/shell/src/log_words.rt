@@ -1,66 +1,44 @@
 use bearer::code::Code;
 use dialogue_log::enter::Outcome;
-use reader::read;
-use std::alloc::{AllocError, Global};
 use std::fmt;
 use terms::stop::Stop;
+use wire::pdu::Pdu;
 use wording::words::{FaultWords, PduWords};
 
-// The dialogue's number and service code, before what came of an entry.
+// The result line of an entry, behind the dialogue's number and service code.
 #[derive(Clone, Copy)]
-pub(crate) struct Heading {
+pub(crate) struct ResultLine<'a> {
     pub(crate) number: u32,
     pub(crate) code: Code,
+    pub(crate) played: Result<Outcome<Pdu<'a>>, Stop>,
 }
 
-impl fmt::Display for Heading {
+// A service code's digits, or `-` for none.
+#[derive(Clone, Copy)]
+struct CodeWords(Code);
+
+impl fmt::Display for CodeWords {
     fn fmt<W: fmt::Write>(&self, f: &mut fmt::Formatter<W>) -> fmt::Result {
-        let number = self.number;
-        write!(f, "dialogue={number} code=")?;
-        let digits = self.code.as_slice();
+        let digits = self.0.as_slice();
         if digits.is_empty() {
-            return write!(f, "-");
+            return f.write_str("-");
         }
         for digit in digits {
-            let c = *digit as char;
-            write!(f, "{c}")?;
+            f.write_char(*digit as char)?;
         }
         Ok(())
     }
 }
 
-// The result line of an entry; what was taken stands at the front of `place`.
-pub(crate) fn told(
-    heap: Global,
-    heading: Heading,
-    outcome: Outcome,
-    place: &[u8; 160],
-) -> Result<String, AllocError> {
-    match outcome {
-        Outcome::Taken(n) => {
-            if n > 160 {
-                return Ok(String::new(heap));
-            }
-            match read(&place[0..n]) {
-                Ok(pdu) => {
-                    let words = PduWords(pdu);
-                    format!(in heap; "{heading} {words}\n")
-                }
-                Err(fault) => {
-                    let words = FaultWords(fault);
-                    format!(in heap; "{heading} {words}\n")
-                }
-            }
+impl fmt::Display for ResultLine<'_> {
+    fn fmt<W: fmt::Write>(&self, f: &mut fmt::Formatter<W>) -> fmt::Result {
+        write!(f, "dialogue={} code={} ", self.number, CodeWords(self.code))?;
+        match self.played {
+            Ok(Outcome::Taken(pdu)) => write!(f, "{}", PduWords(pdu)),
+            Ok(Outcome::Closed) => f.write_str("closed"),
+            Ok(Outcome::Lost) => f.write_str("lost"),
+            Err(Stop::Faulty(fault)) => write!(f, "{}", FaultWords(fault)),
+            Err(Stop::Refused(no)) => write!(f, "refused {}", no.number()),
         }
-        Outcome::Stopped(Stop::Faulty(fault)) => {
-            let words = FaultWords(fault);
-            format!(in heap; "{heading} {words}\n")
-        }
-        Outcome::Stopped(Stop::Refused(no)) => {
-            let number = no.number();
-            format!(in heap; "{heading} refused {number}\n")
-        }
-        Outcome::Closed => format!(in heap; "{heading} closed\n"),
-        Outcome::Lost => format!(in heap; "{heading} lost\n"),
     }
 }

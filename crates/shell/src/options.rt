@@ -1,7 +1,8 @@
 use bearer::side::Highest;
+use console::command::Misuse;
 
 // How the strings of a log stand.
-#[derive(Clone, Copy)]
+#[derive(Clone, Copy, PartialEq, Eq, Debug)]
 pub(crate) enum Form {
     Direct,
     Gateway,
@@ -15,6 +16,7 @@ pub(crate) struct Options {
     pub(crate) latest: u32,
 }
 
+// No `FromStr`: `Highest` and `u32` are not of this crate, and the three words are read alike.
 fn form_named(word: &str) -> Option<Form> {
     match word {
         "direct" => Some(Form::Direct),
@@ -32,38 +34,22 @@ fn highest_named(word: &str) -> Option<Highest> {
 }
 
 fn latest_named(word: &str) -> Option<u32> {
-    let digits = word.strip_prefix("latest=")?;
-    match digits.parse::<u32>() {
-        Ok(n) => Some(n),
-        Err(_) => None,
-    }
+    word.strip_prefix("latest=")?.parse().ok()
 }
 
-// The options that words ask for, each at most once and in this order: the form, the highest octet, the latest number.
-pub(crate) fn asked_by(words: &[String]) -> Option<Options> {
-    let mut asked = Options {
-        form: Form::Gateway,
-        highest: Highest::Eight,
-        latest: 0,
-    };
-    let mut at = 0;
-    if at < words.len() {
-        if let Some(form) = form_named(words[at].as_str()) {
-            asked.form = form;
-            at += 1;
-        }
+// The options that the words behind `log` ask for, each at most once and in this order: the form, the highest octet, the
+// latest number.
+pub(crate) fn asked_by(words: &[String]) -> Result<Options, Misuse> {
+    let mut words = words.iter().skip(1).peekable();
+    let form = words.next_if_map(|word| form_named(word).ok_or(word));
+    let highest = words.next_if_map(|word| highest_named(word).ok_or(word));
+    let latest = words.next_if_map(|word| latest_named(word).ok_or(word));
+    if words.next().is_some() {
+        return Err(Misuse::LogWords);
     }
-    if at < words.len() {
-        if let Some(highest) = highest_named(words[at].as_str()) {
-            asked.highest = highest;
-            at += 1;
-        }
-    }
-    if at < words.len() {
-        if let Some(latest) = latest_named(words[at].as_str()) {
-            asked.latest = latest;
-            at += 1;
-        }
-    }
-    if at < words.len() { None } else { Some(asked) }
+    Ok(Options {
+        form: form.unwrap_or(Form::Gateway),
+        highest: highest.unwrap_or(Highest::Eight),
+        latest: latest.unwrap_or(0),
+    })
 }

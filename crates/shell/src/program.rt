@@ -1,54 +1,37 @@
 use crate::log::log;
 use crate::options::{Form, Options, asked_by};
 use crate::strings::strings;
-use anyhow::anyhow;
-use console::command::{Command, HELP, Misuse};
+use console::command::{Command, HELP};
+use direct::DirectLine;
+use gateway::row::Row;
+use std::process::ExitCode;
+use std::rt::Env;
 use std::{env, io};
 
-fn log_with(rt: &HostRuntime, asked: Options) -> io::Result<()> {
+fn log_with(rt: &(impl Input + Print + AllocGlobal), asked: Options) -> io::Result<()> {
     match asked.form {
-        Form::Direct => {
-            let mut b = direct::new(asked.latest, asked.highest);
-            log(rt, &mut b, Form::Direct)
-        }
-        Form::Gateway => {
-            let mut b = gateway::new(asked.latest, asked.highest);
-            log(rt, &mut b, Form::Gateway)
-        }
+        Form::Direct => log::<DirectLine>(rt, asked),
+        Form::Gateway => log::<Row>(rt, asked),
     }
 }
 
-fn misused(rt: &HostRuntime, misuse: Misuse) -> anyhow::Result<()> {
-    Err(anyhow!(format!(in rt.alloc(); "{misuse}")?))
-}
-
-fn commanded(rt: &HostRuntime) -> anyhow::Result<()> {
+fn commanded(rt: &(impl Env + Input + Print + AllocGlobal)) -> anyhow::Result<()> {
     let words: Vec<String> = env::args(rt)?.skip(1).collect(rt.alloc())?;
-    match Command::asked(words.as_slice()) {
-        Ok(Command::Strings) => strings(rt)?,
-        Ok(Command::Help) => print!(rt; "{HELP}")?,
-        Ok(Command::Log) => {
-            if words.is_empty() {
-                return misused(rt, Misuse::NoCommand);
-            }
-            let words = words.as_slice();
-            let Some(asked) = asked_by(&words[1..]) else {
-                return misused(rt, Misuse::LogWords);
-            };
-            log_with(rt, asked)?;
-        }
-        Err(misuse) => return misused(rt, misuse),
+    match Command::asked(words.as_slice())? {
+        Command::Strings => strings(rt)?,
+        Command::Help => print!(rt; "{HELP}")?,
+        Command::Log => log_with(rt, asked_by(words.as_slice())?)?,
     }
     Ok(())
 }
 
-// Does what the arguments ask for; what is wrong with them is told on the error stream.
-pub fn run(rt: &HostRuntime) -> anyhow::Result<()> {
+// Does what the arguments ask for. What is wrong is told on the error stream, and by the exit status.
+pub fn run(rt: &(impl Env + Input + Print + Eprint + AllocGlobal)) -> ExitCode {
     match commanded(rt) {
-        Ok(()) => Ok(()),
+        Ok(()) => ExitCode::SUCCESS,
         Err(error) => {
-            eprintln!(rt; "kurbelna: {error}")?;
-            Err(error)
+            let _ = eprintln!(rt; "kurbelna: {error}");
+            ExitCode::FAILURE
         }
     }
 }

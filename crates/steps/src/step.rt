@@ -1,7 +1,8 @@
-ghost use Rattle.std.specs.Prelude.{◌≡◌, ◌+◌, ◌^◌, ◌<◌, ◌++◌, length, IfOk, OnOk};
-ghost use Rattle.wire.specs.Header.{elements_in};
-ghost use Rattle.wire.specs.Pdu.{carried, seen_pdu, seen};
-ghost use Rattle.steps.specs.Steps.{seen_steps, before, header_steps, body_steps, pdu_steps, field_steps, until_fault, in_header, header_fault_steps, fault_steps, steps_of};
+ghost use Rattle.std.specs.Prelude.{◌≡◌, [], ◌∷◌, length, IfOk, OnOk};
+ghost use Rattle.wire.specs.Elements.{elements_left};
+ghost use Rattle.wire.specs.Pdu.{carried, first, seen_pdu, seen};
+ghost use Rattle.steps.specs.Adds.{Adds};
+ghost use Rattle.steps.specs.Steps.{first_octet, seen_step, seen_steps, before, header_steps, body_steps, pdu_steps, field_steps, until_fault, header_fault_steps, fault_steps, steps_of};
 
 use rules::octet::{header_place, octet_at};
 use std::alloc::{AllocError, Global};
@@ -9,12 +10,14 @@ use std::fmt;
 use terms::cause::Cause;
 use terms::fault::Fault;
 use wire::code::{ErrorCode, ReleaseCode};
+use wire::elements::Elements;
+use wire::header::{PORTS, Ports, SEGMENT};
+use wire::kind::Kind;
 use wire::pdu::{Body, Pdu};
 use wording::address::Address;
-use wording::kind::{kind_of, pdu_name};
 
 // A step of reading a string.
-#[derive(Clone, Copy)]
+#[derive(Clone, Copy, PartialEq, Eq, Debug)]
 pub enum Step<'a> {
     First(u8),
     Field(&'a [u8]),
@@ -35,139 +38,123 @@ pub enum Step<'a> {
     Released(ReleaseCode),
 }
 
-// The elements of a header whose first stands at `start`, as far as they lie within it and begin before `until`.
-fn element_steps<'a>(
-    all: &mut Vec<Step<'a>>,
-    header: &'a [u8],
-    start: usize,
-    until: usize,
-) -> Result<(), AllocError>
-    requires { start + length header.now < 2 ^ 64 }
-    ensures { OnOk result (seen_steps all.new.items ≡ seen_steps all.old.items ++ before until (elements_in 0 start header.now)) }
-{
-    let mut rest = header;
-    let mut place = start;
-    while let [kind, len, tail @ ..] = rest {
-        let n = *len as usize;
-        if n > tail.len() || place >= until {
+// A string, and the steps of reading it that were taken so far.
+#[derive(Drop)]
+struct Trace<'a> {
+    string: &'a [u8],
+    steps: Vec<Step<'a>>,
+}
+
+impl<'a> Trace<'a> {
+    fn push(&mut self, step: Step<'a>) -> Result<(), AllocError>
+        ensures { OnOk result (Adds self.old (seen_step step.entry ∷ []) self.new) }
+    {
+        self.steps.push(step)?;
+        Ok(())
+    }
+
+    fn first_octet(&mut self) -> Result<(), AllocError>
+        ensures { OnOk result (Adds self.old (first_octet (first self.old.string.now) ∷ []) self.new) }
+    {
+        self.push(Step::First(octet_at(self.string, 0)))
+    }
+
+    // The elements of a header, as far as they lie within it and begin before `until`.
+    fn elements(&mut self, elements: Elements<'a>, until: usize) -> Result<(), AllocError>
+        ensures { OnOk result (Adds self.old (before until (elements_left elements.entry)) self.new) }
+    {
+        for element in elements {
+            match element {
+                Ok(element) if element.place < until => self.push(Step::Element {
+                    place: element.place,
+                    kind: element.kind,
+                    octets: element.octets,
+                })?,
+                _ => return Ok(()),
+            }
+        }
+        Ok(())
+    }
+
+    // A header at a place: its length octet and its elements that begin before `until`; nothing where it overruns the string.
+    fn header(&mut self, at: usize, until: usize) -> Result<(), AllocError>
+        ensures { OnOk result (Adds self.old (header_steps at until self.old.string.now) self.new) }
+    {
+        let Some(elements) = Elements::of(self.string, at) else {
+            return Ok(());
+        };
+        let length = octet_at(self.string, at);
+        self.push(Step::HeaderLength { place: at, length })?;
+        self.elements(elements, until)
+    }
+
+    fn body(&mut self, body: Body<'a>) -> Result<(), AllocError>
+        ensures { OnOk result (Adds self.old (body_steps self.old.string.now (carried body.entry)) self.new) }
+    {
+        self.header(body.header, self.string.len())?;
+        self.push(Step::User {
+            place: body.user.place,
+            count: body.user.octets.len(),
+        })
+    }
+
+    fn pdu(&mut self, pdu: Pdu<'a>) -> Result<(), AllocError>
+        ensures { OnOk result (Adds self.old (pdu_steps self.old.string.now (seen_pdu pdu.entry)) self.new) }
+    {
+        match pdu {
+            Pdu::Data { body, .. } => self.body(body),
+            Pdu::DataLong { address, body, .. } => {
+                self.push(Step::Field(address.octets))?;
+                self.body(body)
+            }
+            Pdu::Ready => Ok(()),
+            Pdu::Error(code) => self.push(Step::ErrorTold(code)),
+            Pdu::Release(code) => self.push(Step::Released(code)),
+        }
+    }
+
+    // The address field before a header at a place, where there is one.
+    fn field(&mut self, at: usize) -> Result<(), AllocError>
+        ensures { OnOk result (Adds self.old (field_steps at self.old.string.now) self.new) }
+    {
+        if at > 1 && at <= self.string.len() {
+            self.push(Step::Field(&self.string[1..at]))?;
+        }
+        Ok(())
+    }
+
+    // Before which place the elements of a header were read that begins at `at` and has a fault at a place.
+    fn until_fault(&self, at: usize, place: usize) -> usize
+        ensures { result ≡ until_fault at place self.now.string.now }
+    {
+        if place == at {
+            self.string.len()
+        } else {
+            place
+        }
+    }
+
+    // What was read where the header, which begins at `at`, has a fault at a place.
+    fn header_fault(&mut self, at: usize, place: usize) -> Result<(), AllocError>
+        ensures { OnOk result (Adds self.old (header_fault_steps at place self.old.string.now) self.new) }
+    {
+        let until = self.until_fault(at, place);
+        self.field(at)?;
+        self.header(at, until)
+    }
+
+    fn fault(&mut self, fault: Fault) -> Result<(), AllocError>
+        ensures { OnOk result (Adds self.old (fault_steps self.old.string.now fault) self.new) }
+    {
+        if fault.place == 0 {
             return Ok(());
         }
-        all.push(Step::Element {
-            place,
-            kind: *kind,
-            octets: &tail[0..n],
-        })?;
-        rest = &tail[n..];
-        place += 2 + n;
-    }
-    Ok(())
-}
-
-// A header at a place: its length octet and its elements that begin before `until`; nothing where it overruns the string.
-fn header_steps<'a>(
-    all: &mut Vec<Step<'a>>,
-    s: &'a [u8],
-    at: usize,
-    until: usize,
-) -> Result<(), AllocError>
-    ensures { OnOk result (seen_steps all.new.items ≡ seen_steps all.old.items ++ header_steps at until s.now) }
-{
-    if at >= s.len() {
-        return Ok(());
-    }
-    let length = s[at];
-    let n = length as usize;
-    if n > s.len() - (at + 1) {
-        return Ok(());
-    }
-    all.push(Step::HeaderLength { place: at, length })?;
-    element_steps(all, &s[at + 1..at + 1 + n], at + 1, until)
-}
-
-fn body_steps<'a>(all: &mut Vec<Step<'a>>, s: &'a [u8], body: Body<'a>) -> Result<(), AllocError>
-    ensures { OnOk result (seen_steps all.new.items ≡ seen_steps all.old.items ++ body_steps s.now (carried body.entry)) }
-{
-    header_steps(all, s, body.header, s.len())?;
-    all.push(Step::User {
-        place: body.user.place,
-        count: body.user.octets.len(),
-    })?;
-    Ok(())
-}
-
-fn pdu_steps<'a>(all: &mut Vec<Step<'a>>, s: &'a [u8], pdu: Pdu<'a>) -> Result<(), AllocError>
-    ensures { OnOk result (seen_steps all.new.items ≡ seen_steps all.old.items ++ pdu_steps s.now (seen_pdu pdu.entry)) }
-{
-    match pdu {
-        Pdu::Data { body, .. } => body_steps(all, s, body),
-        Pdu::DataLong { address, body, .. } => {
-            all.push(Step::Field(address.octets))?;
-            body_steps(all, s, body)
+        self.first_octet()?;
+        if fault.cause == Cause::Header {
+            return self.header_fault(header_place(self.string), fault.place);
         }
-        Pdu::Ready => Ok(()),
-        Pdu::Error(code) => {
-            all.push(Step::ErrorTold(code))?;
-            Ok(())
-        }
-        Pdu::Release(code) => {
-            all.push(Step::Released(code))?;
-            Ok(())
-        }
+        Ok(())
     }
-}
-
-// The address field before a header at a place, where there is one.
-fn field_steps<'a>(all: &mut Vec<Step<'a>>, s: &'a [u8], at: usize) -> Result<(), AllocError>
-    ensures { OnOk result (seen_steps all.new.items ≡ seen_steps all.old.items ++ field_steps at s.now) }
-{
-    if at > 1 && at <= s.len() {
-        all.push(Step::Field(&s[1..at]))?;
-    }
-    Ok(())
-}
-
-fn until_fault(s: &[u8], at: usize, place: usize) -> usize
-    ensures { result ≡ until_fault at place s.now }
-{
-    if place == at {
-        return s.len();
-    }
-    place
-}
-
-fn is_header(cause: Cause) -> bool
-    ensures { result ≡ in_header cause }
-{
-    match cause {
-        Cause::Header => true,
-        _ => false,
-    }
-}
-
-// What was read of a string whose header, which begins at `at`, has a fault at a place.
-fn header_fault_steps<'a>(
-    all: &mut Vec<Step<'a>>,
-    s: &'a [u8],
-    at: usize,
-    place: usize,
-) -> Result<(), AllocError>
-    ensures { OnOk result (seen_steps all.new.items ≡ seen_steps all.old.items ++ header_fault_steps at place s.now) }
-{
-    field_steps(all, s, at)?;
-    header_steps(all, s, at, until_fault(s, at, place))
-}
-
-fn fault_steps<'a>(all: &mut Vec<Step<'a>>, s: &'a [u8], fault: Fault) -> Result<(), AllocError>
-    ensures { OnOk result (seen_steps all.new.items ≡ seen_steps all.old.items ++ fault_steps s.now fault) }
-{
-    if fault.place == 0 {
-        return Ok(());
-    }
-    all.push(Step::First(octet_at(s, 0)))?;
-    if is_header(fault.cause) {
-        return header_fault_steps(all, s, header_place(s), fault.place);
-    }
-    Ok(())
 }
 
 // The steps of reading a string, as far as they were taken.
@@ -178,30 +165,30 @@ pub fn steps<'a>(
 ) -> Result<Vec<Step<'a>>, AllocError>
     ensures { IfOk result (λ v. seen_steps v.items ≡ steps_of s.now (seen read.entry)) }
 {
-    let mut all = Vec::new(heap);
+    let mut trace = Trace {
+        string: s,
+        steps: Vec::new(heap),
+    };
     match read {
         Ok(pdu) => {
-            let first = Step::First(octet_at(s, 0));
-            all.push(first)?;
-            pdu_steps(&mut all, s, pdu)?;
+            trace.first_octet()?;
+            trace.pdu(pdu)?;
         }
-        Err(fault) => fault_steps(&mut all, s, fault)?,
+        Err(fault) => trace.fault(fault)?,
     }
-    Ok(all)
+    Ok(trace.steps)
 }
 
 fn show_first<W: fmt::Write>(first: u8, f: &mut fmt::Formatter<W>) -> fmt::Result {
     let version = first / 32;
     let n = first / 2 % 16;
-    let name = match kind_of(first) {
-        Some(kind) => pdu_name(kind),
-        None => "unknown",
-    };
+    write!(f, "at 0: version {version}, type {n} (")?;
+    match Kind::try_from(first / 2) {
+        Ok(kind) => write!(f, "{kind}")?,
+        Err(_) => write!(f, "unknown")?,
+    }
     let more = if first % 2 == 1 { "yes" } else { "no" };
-    write!(
-        f,
-        "at 0: version {version}, type {n} ({name}), more to send: {more}"
-    )
+    write!(f, "), more to send: {more}")
 }
 
 fn show_field<W: fmt::Write>(field: &[u8], f: &mut fmt::Formatter<W>) -> fmt::Result {
@@ -229,36 +216,17 @@ fn show_element<W: fmt::Write>(
     let length = octets.len();
     write!(f, "at {place}: element {kind:02X}, length {length}: ")?;
     match (kind, octets) {
-        (0x05, [a, b, c, d]) => {
-            let to = *a as u16 * 256 + *b as u16;
-            let from = *c as u16 * 256 + *d as u16;
+        (PORTS, [a, b, c, d]) => {
+            let Ports { to, from } = Ports::from([*a, *b, *c, *d]);
             write!(f, "to port {to}, from port {from}")
         }
-        (0x00, [reference, count, sequence]) => {
+        (SEGMENT, [reference, count, sequence]) => {
             write!(
                 f,
                 "reference {reference}, count {count}, sequence {sequence}"
             )
         }
         _ => write!(f, "skipped"),
-    }
-}
-
-fn error_name(code: ErrorCode) -> &'static str {
-    match code {
-        ErrorCode::Unknown => "unknown",
-        ErrorCode::Protocol => "protocol error",
-        ErrorCode::Version => "version",
-        ErrorCode::Addressing => "external addressing not supported",
-    }
-}
-
-fn release_name(code: ReleaseCode) -> &'static str {
-    match code {
-        ReleaseCode::Unknown => "unknown",
-        ReleaseCode::Timer => "timer",
-        ReleaseCode::Idle => "idle",
-        ReleaseCode::User => "user",
     }
 }
 
@@ -276,13 +244,11 @@ impl fmt::Display for Step<'_> {
             Step::User { place, count } => write!(f, "at {place}: user octets: {count}"),
             Step::ErrorTold(code) => {
                 let n = code.number();
-                let name = error_name(*code);
-                write!(f, "at 1: code {n} ({name})")
+                write!(f, "at 1: code {n} ({code})")
             }
             Step::Released(code) => {
                 let n = code.number();
-                let name = release_name(*code);
-                write!(f, "at 1: code {n} ({name})")
+                write!(f, "at 1: code {n} ({code})")
             }
         }
     }

@@ -1,3 +1,3 @@
 pub mod Buffers
-pub mod Every
+pub mod Decodes
 pub mod Questions

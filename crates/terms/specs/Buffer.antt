@@ -1,12 +1,8 @@
 -- Octets written into a caller's buffer.
-use Rattle.std.specs.Prelude.{ℕ, ◌+◌, List, [], ◌∷◌, ◌++◌, length, take, drop, Result, nat_le}
+use Rattle.std.specs.Prelude.{ℕ, List, [], ◌∷◌, ◌++◌, length, drop, Result, nat_le}
 use Rattle.terms.specs.declared.refusal.Refusal.{Refusal}
 use Rattle.terms.specs.Question.{Question, told, unless}
 use Rattle.terms.specs.Refusal.{must}
-
--- a buffer in which octets were laid from a place on, all else kept
-abbrev pub laid : ℕ → List ℕ → List ℕ → List ℕ
-laid at xs old = take at old ++ (xs ++ drop (at + length xs) old)
 
 -- does the buffer hold the result?
 abbrev pub room_questions : List ℕ → List ℕ → List (Question Refusal)

@@ -1,6 +1,9 @@
+pub mod AtMost
 pub mod Buffer
 pub mod Cause
+pub mod Decoded
 pub mod Laws
+pub mod Octets
 pub mod Question
 pub mod Refusal
 pub mod Stop

@@ -3,18 +3,19 @@ ghost use Rattle.terms.specs.Cause.{cause_number, cause_numbered};
 
 use std::fmt;
 
-// What is wrong with a string that came. A cause stands in an answer; it is no refusal.
+// What is wrong with a string that came. A cause stands in an answer; it is no refusal. Each has its
+// published number.
 #[derive(Clone, Copy, PartialEq, Eq, Debug)]
 pub enum Cause {
-    Garbled,
-    Empty,
-    Kind,
-    Version,
-    AddressField,
-    Header,
-    OctetCount,
-    OutOfStep,
-    TooLong,
+    Garbled = 40,
+    Empty = 41,
+    Kind = 42,
+    Version = 43,
+    AddressField = 44,
+    Header = 45,
+    OctetCount = 46,
+    OutOfStep = 47,
+    TooLong = 48,
 }
 
 impl Cause {
@@ -23,17 +24,7 @@ impl Cause {
         ensures table { result ≡ cause_number self }
         ensures back { cause_numbered result ≡ self }
     {
-        match self {
-            Cause::Garbled => 40,
-            Cause::Empty => 41,
-            Cause::Kind => 42,
-            Cause::Version => 43,
-            Cause::AddressField => 44,
-            Cause::Header => 45,
-            Cause::OctetCount => 46,
-            Cause::OutOfStep => 47,
-            Cause::TooLong => 48,
-        }
+        self as u8
     }
 
     fn words(self) -> &'static str {

@@ -3,43 +3,43 @@ ghost use Rattle.terms.specs.Refusal.{refusal_number, refusal_numbered};
 
 use std::fmt;
 
-// Why a call was refused. A refused call altered nothing.
+// Why a call was refused. A refused call altered nothing. Each has its published number.
 #[derive(Clone, Copy, PartialEq, Eq, Debug)]
 pub enum Refusal {
     // making an end
-    ServiceCode,
-    LongestString,
-    Limits,
+    ServiceCode = 1,
+    LongestString = 2,
+    Limits = 3,
     // send
-    Ending,
-    Msisdn,
-    NoAddress,
-    DatagramTooLong,
-    TooManySegments,
-    BatchFull,
-    OutboxFull,
-    OutboxOctets,
+    Ending = 4,
+    Msisdn = 5,
+    NoAddress = 6,
+    DatagramTooLong = 7,
+    TooManySegments = 8,
+    BatchFull = 9,
+    OutboxFull = 10,
+    OutboxOctets = 11,
     // step and release
-    OtherLongest,
-    LowOctetsOnly,
-    Unread,
+    OtherLongest = 12,
+    LowOctetsOnly = 13,
+    Unread = 14,
     // read
-    NothingUnread,
-    ReadBuffer,
+    NothingUnread = 15,
+    ReadBuffer = 16,
     // release
-    NoDialogue,
+    NoDialogue = 17,
     // writing, encoding and decoding
-    Buffer,
+    Buffer = 20,
     // a bearer
-    AlreadyOpen,
-    OpeningCode,
-    StringTooLong,
-    OctetTooHigh,
-    NumbersSpent,
-    NotOpen,
-    NotYourTurn,
-    NothingForYou,
-    RawTooLong,
+    AlreadyOpen = 21,
+    OpeningCode = 22,
+    StringTooLong = 23,
+    OctetTooHigh = 24,
+    NumbersSpent = 25,
+    NotOpen = 26,
+    NotYourTurn = 27,
+    NothingForYou = 28,
+    RawTooLong = 29,
 }
 
 impl Refusal {
@@ -48,35 +48,7 @@ impl Refusal {
         ensures table { result ≡ refusal_number self }
         ensures back { refusal_numbered result ≡ self }
     {
-        match self {
-            Refusal::ServiceCode => 1,
-            Refusal::LongestString => 2,
-            Refusal::Limits => 3,
-            Refusal::Ending => 4,
-            Refusal::Msisdn => 5,
-            Refusal::NoAddress => 6,
-            Refusal::DatagramTooLong => 7,
-            Refusal::TooManySegments => 8,
-            Refusal::BatchFull => 9,
-            Refusal::OutboxFull => 10,
-            Refusal::OutboxOctets => 11,
-            Refusal::OtherLongest => 12,
-            Refusal::LowOctetsOnly => 13,
-            Refusal::Unread => 14,
-            Refusal::NothingUnread => 15,
-            Refusal::ReadBuffer => 16,
-            Refusal::NoDialogue => 17,
-            Refusal::Buffer => 20,
-            Refusal::AlreadyOpen => 21,
-            Refusal::OpeningCode => 22,
-            Refusal::StringTooLong => 23,
-            Refusal::OctetTooHigh => 24,
-            Refusal::NumbersSpent => 25,
-            Refusal::NotOpen => 26,
-            Refusal::NotYourTurn => 27,
-            Refusal::NothingForYou => 28,
-            Refusal::RawTooLong => 29,
-        }
+        self as u8
     }
 
     fn words(self) -> &'static str {

@@ -5,7 +5,7 @@ use crate::fault::Fault;
 use crate::refusal::Refusal;
 
 // Why a call that takes or decodes a string did not give octets: it was refused and altered nothing, or the string is faulty.
-#[derive(Clone, Copy)]
+#[derive(Clone, Copy, PartialEq, Eq, Debug)]
 pub enum Stop {
     Refused(Refusal),
     Faulty(Fault),

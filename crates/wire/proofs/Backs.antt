@@ -12,7 +12,7 @@ use Rattle.wire.specs.Pdu as read
 use Rattle.wire.specs.declared.kind.Kind.TheVariants as kind
 use Rattle.wire.specs.Format.{Tells, Stands, opening, header_of}
 use Rattle.wire.specs.Written as sent
-use Rattle.wire.specs.Back.{carried_at, read_as, LawfulSegment, Lawful, ReadsBack, ReadsAs}
+use Rattle.wire.specs.Back.{carried_at, read_as, LawfulSegment, Lawful, ReadsBack, ReadsAs, Writes}
 use Rattle.wire.proofs.Completes.{complete}
 
 fine_3 : (r c s : ℕ) → 1 ≤ s → s ≤ c → fine_of 0 (r ∷ c ∷ s ∷ []) ≡ true
@@ -68,14 +68,8 @@ sent_step w false old new r l e f =
     let P : Result ℕ Refusal → Type 0 = λ v. ReadsAs w v new in
     subst P (sym e) tt
 
-pub sent_back : (w : sent.Message) (old new : List ℕ) (r : Result ℕ Refusal) → Lawful w → r ≡ answer_of (sent.written w) old → new ≡ left_in (sent.written w) old → ReadsAs w r new
+sent_back : (w : sent.Message) (old new : List ℕ) (r : Result ℕ Refusal) → Lawful w → r ≡ answer_of (sent.written w) old → new ≡ left_in (sent.written w) old → ReadsAs w r new
 sent_back w old new r l e f = sent_step w (leb (length (sent.written w)) (length old)) old new r l e f
-
--- all that a writer promises, of octets that are the message's
-pub record Writes (w : sent.Message) (old new : List ℕ) (r : Result ℕ Refusal) : Type 0 where
-  pub answer : r ≡ answer_of (sent.written w) old
-  pub after : new ≡ left_in (sent.written w) old
-  pub back : ReadsAs w r new
 
 pub writes : (w : sent.Message) (xs old new : List ℕ) (r : Result ℕ Refusal) → Lawful w → xs ≡ sent.written w → r ≡ answer_of xs old → new ≡ left_in xs old → Writes w old new r
 writes w xs old new r l x e f =

@@ -1,7 +1,7 @@
 -- Every string that keeps the rules of the format is read as the PDU that it is.
 use Rattle.std.proofs.Common.{◌≡◌, ℕ, ◌+◌, ◌-◌, ◌/◌, ◌%◌, ◌≤◌, Bool, true, false, cond, not, ◌&&◌, ◌||◌, eqb, ltb, leb, List, [], ◌∷◌, ◌++◌, length, get_or, take, drop, Some, None, Ok, sym, refl, ap, ◌∙◌, subst, arith, length-append, le-leb}
 use lib.Seq.{take-append_seam, get_or-append_seam}
-use Rattle.std.proofs.lemmas.List.{drop-drop, drop_at, take_rest}
+use Rattle.std.proofs.lemmas.List.{drop-drop, drop_at}
 use Rattle.terms.specs.declared.fault.Layer.TheVariants as layer
 use Rattle.terms.specs.Question.{told, told_of}
 use Rattle.terms.specs.Cause.{fault_of}
@@ -15,7 +15,7 @@ use Rattle.wire.specs.declared.code.ReleaseCode.TheVariants as release
 use Rattle.wire.specs.Code.{error_number, release_number}
 use Rattle.wire.specs.Address.{LawfulField, content_fine, address_fine}
 use Rattle.wire.specs.Header.{Element, filled, elements_in, fine_of, questions_on, found_in}
-use Rattle.wire.specs.Pdu.{Span, Carried, data_of, long_of, ready, error_of, release_of, start_questions, address_questions, field_size, header_questions, body_in, told_form, data_form, long_form, reading}
+use Rattle.wire.specs.Pdu.{Span, Carried, data_of, long_of, ready, error_of, release_of, start_questions, address_questions, field_size, header_elements, header_found, header_questions, body_in, told_form, data_form, long_form, reading}
 use Rattle.wire.specs.Format.{Placed, AllFine, opening, header_of, Tells, Complete}
 use Rattle.wire.proofs.Fillings.{fills}
 use Rattle.wire.proofs.Bodies.{body_is}
@@ -37,22 +37,20 @@ header_stands pre es c t =
     let n = length fs in
     let s : get_or xs at 0 ≡ n = get_or-append_seam pre n (fs ++ u) 0 in
     let d : drop (at + 1) xs ≡ fs ++ u = sym (drop-drop 1 at xs) ∙ ap (drop 1) (drop_at pre (header_of es ++ u) at refl) in
-    let k : at + 1 + get_or xs at 0 - (at + 1) ≡ n = omega (arith, s) in
-    let f : take (at + 1 + get_or xs at 0 - (at + 1)) (drop (at + 1) xs) ≡ fs = ap (λ v. take v (drop (at + 1) xs)) k ∙ ap (take n) d ∙ take-append_seam fs u in
+    let f : take (get_or xs at 0) (drop (at + 1) xs) ≡ fs = ap (λ v. take v (drop (at + 1) xs)) s ∙ ap (take n) d ∙ take-append_seam fs u in
     let h : at + 1 + get_or xs at 0 ≤ length xs = omega (arith, s, length-append pre (header_of es ++ u), length-append (header_of es) u) in
-    let e : Ok (found_in es) ≡ told (questions_on (elements_in 0 (at + 1) (take (at + 1 + get_or xs at 0 - (at + 1)) (drop (at + 1) xs)))) (found_in (elements_in 0 (at + 1) (take (at + 1 + get_or xs at 0 - (at + 1)) (drop (at + 1) xs))))
+    let e : Ok (found_in es) ≡ told (questions_on (header_elements at xs)) (header_found at xs)
     = sym (ap (λ v. told (questions_on (elements_in 0 (at + 1) v)) (found_in (elements_in 0 (at + 1) v))) f
     ∙ ap (λ v. told (questions_on v) (found_in v)) (fills (at + 1) es t.placed)
     ∙ told_all (questions_on es) (found_in es) (fine_hold (at + 1) es t.placed t.fine)) in
-    let b = body_is at xs (found_in es) c.ports h e t.ports in
     let w : drop (at + 1 + n) xs ≡ u = sym (drop-drop n (at + 1) xs) ∙ ap (drop n) d ∙ drop_at fs u n refl in
     let y : c.user.place ≡ at + 1 + get_or xs at 0 = omega (arith, s, t.user) in
-    let v : take (length xs - (at + 1 + get_or xs at 0)) (drop (at + 1 + get_or xs at 0) xs) ≡ u = take_rest xs (at + 1 + get_or xs at 0) ∙ ap (λ j. drop (at + 1 + j) xs) s ∙ w in
+    let v : drop (at + 1 + get_or xs at 0) xs ≡ u = ap (λ j. drop (at + 1 + j) xs) s ∙ w in
     ap (λ j. Ok (record { header = j; ports = c.ports; segment = c.segment; user = c.user })) t.header
     ∙ ap (λ j. Ok (record { header = at; ports = c.ports; segment = j; user = c.user })) (sym t.segment)
     ∙ ap (λ j. Ok (record { header = at; ports = c.ports; segment = (found_in es).segment; user = record { place = j; octets = u } })) y
     ∙ ap (λ j. Ok (record { header = at; ports = c.ports; segment = (found_in es).segment; user = record { place = at + 1 + get_or xs at 0; octets = j } })) (sym v)
-    ∙ b
+    ∙ body_is at xs (found_in es) c.ports h e t.ports
 
 field_stands : (f : ℕ) (a r : List ℕ) → LawfulField a → Ok (length a) ≡ told (address_questions (f ∷ (a ++ r))) (field_size (f ∷ (a ++ r)))
 field_stands f [] r l = absurd (omega (arith, l.0))

@@ -1,5 +1,6 @@
 use Rattle.std.proofs.Common.{◌≡◌, ℕ, zero, suc, ◌+◌, ◌≤◌, Bool, true, false, cond, leb, List, [], ◌∷◌, ◌++◌, length, take, drop, sym, refl, ap, ◌∙◌, arith, length-append, length-drop, take-append-drop, length-take, le-leb, leb-true}
 use lib.Seq.{take-append_seam}
+use Rattle.std.proofs.lemmas.Bool.{false≢true}
 use Rattle.std.proofs.lemmas.List.{drop_at}
 use Rattle.wire.specs.Header.{Element, elements_in, overrun, filled}
 use Rattle.wire.specs.Format.{all_whole, Fills, Filled}
@@ -27,11 +28,11 @@ turn true at k n tail es w ih h =
     let g : n ≤ length tail = w refl in
     let s : length (take n tail) ≡ n = omega (arith, length-take n tail) in
     ap (λ v. k ∷ v ∷ (take n tail ++ filled es)) s ∙ ap (λ v. k ∷ n ∷ (take n tail ++ v)) (ih h g) ∙ ap (λ v. k ∷ n ∷ v) (take-append-drop n tail)
-turn false at k n tail es w ih h = let q : ◌≡◌ {A = ℕ} 0 1 = cc in absurd (omega arith)
+turn false at k n tail es w ih h = absurd (false≢true h)
 
 filled_by : (m at : ℕ) (xs : List ℕ) → length xs ≤ m → all_whole (elements_in 0 at xs) ≡ true → filled (elements_in 0 at xs) ≡ xs
 filled_by m at [] b h = refl
-filled_by m at (k ∷ []) b h = let q : ◌≡◌ {A = ℕ} 0 1 = cc in absurd (omega arith)
+filled_by m at (k ∷ []) b h = absurd (false≢true h)
 filled_by zero at (k ∷ n ∷ tail) b h = absurd (omega arith)
 filled_by (suc m) at (k ∷ n ∷ tail) b h =
     turn (leb n (length tail)) at k n tail (elements_in n (at + (2 + n)) tail) (leb-true n (length tail))

@@ -2,6 +2,7 @@
 use Rattle.std.proofs.Common.{◌≡◌, ℕ, zero, suc, ◌+◌, ◌/◌, ◌%◌, ◌<◌, ◌≤◌, Bool, true, false, cond, not, ◌&&◌, ◌||◌, eqb, leb, List, [], ◌∷◌, ◌++◌, length, take, drop, is_some, Some, None, Option, unwrap_or, sym, refl, ap, ◌∙◌, subst, mod-lt, add-one, one-add, arith, length-drop, take-append-drop, length-take-le, drop-cons, eqb-true, leb-true}
 use native.Mathlib.Nat.{mod-add-div'}
 use borrow.Author.Tests.{eqb-false}
+use Rattle.std.proofs.lemmas.Bool.{and_parts, false≢true}
 use Rattle.std.proofs.lemmas.List.{drop-drop}
 use Rattle.terms.specs.declared.fault.Layer.TheVariants as layer
 use Rattle.terms.specs.Cause.{ask}
@@ -19,21 +20,13 @@ use Rattle.wire.specs.Format.{Placed, all_whole, AllFine, opening, header_of, Te
 use Rattle.wire.proofs.Fillings.{filled_is}
 use Rattle.wire.proofs.Walks.{skipped}
 
-and_left : (a b : Bool) → (a && b) ≡ true → a ≡ true
-and_left true b e = refl
-and_left false b e = e
-
-and_right : (a b : Bool) → (a && b) ≡ true → b ≡ true
-and_right true b e = e
-and_right false b e = let z : ◌≡◌ {A = ℕ} 0 1 = cc in absurd (omega arith)
-
 whole_all : (es : List Element) → AllHold (questions_on es) → all_whole es ≡ true
 whole_all [] h = refl
-whole_all (e ∷ es) h = ap (λ b. b && all_whole es) (and_left e.whole (fine_of e.kind e.octets) h.0) ∙ whole_all es h.1
+whole_all (e ∷ es) h = ap (λ b. b && all_whole es) (and_parts e.whole (fine_of e.kind e.octets) h.0).0 ∙ whole_all es h.1
 
 fine_all : (es : List Element) → AllHold (questions_on es) → AllFine es
 fine_all [] h = tt
-fine_all (e ∷ es) h = (and_right e.whole (fine_of e.kind e.octets) h.0, fine_all es h.1)
+fine_all (e ∷ es) h = ((and_parts e.whole (fine_of e.kind e.octets) h.0).1, fine_all es h.1)
 
 -- elements that are whole stand one behind the other
 placed_turn : (b : Bool) (at k n : ℕ) (tail : List ℕ) (es : List Element) → (b ≡ true → n ≤ length tail) → (all_whole es ≡ true → n ≤ length tail → Placed (at + (2 + n)) es)
@@ -43,11 +36,11 @@ placed_turn true at k n tail es w ih h =
     let g : n ≤ length tail = w refl in
     let P : ℕ → Type 0 = λ j. Placed (at + (2 + j)) es in
     (refl, refl, subst P (sym (length-take-le n tail g)) (ih h g))
-placed_turn false at k n tail es w ih h = let q : ◌≡◌ {A = ℕ} 0 1 = cc in absurd (omega arith)
+placed_turn false at k n tail es w ih h = absurd (false≢true h)
 
 placed_by : (m at : ℕ) (xs : List ℕ) → length xs ≤ m → all_whole (elements_in 0 at xs) ≡ true → Placed at (elements_in 0 at xs)
 placed_by m at [] b h = tt
-placed_by m at (k ∷ []) b h = let q : ◌≡◌ {A = ℕ} 0 1 = cc in absurd (omega arith)
+placed_by m at (k ∷ []) b h = absurd (false≢true h)
 placed_by zero at (k ∷ n ∷ tail) b h = absurd (omega arith)
 placed_by (suc m) at (k ∷ n ∷ tail) b h =
     placed_turn (leb n (length tail)) at k n tail (elements_in n (at + (2 + n)) tail) (leb-true n (length tail))
@@ -57,7 +50,7 @@ placed_by (suc m) at (k ∷ n ∷ tail) b h =
 
 value_is : (o : Option Ports) → is_some o ≡ true → o ≡ Some (unwrap_or o no_ports)
 value_is (Some p) h = refl
-value_is None h = let q : ◌≡◌ {A = ℕ} 0 1 = cc in absurd (omega arith)
+value_is None h = cc
 
 -- the header at a place, and what stands behind it
 header_sound : (at : ℕ) (xs : List ℕ) → AllHold (header_questions at xs)
@@ -86,16 +79,15 @@ header_sound at xs h =
 
 -- the address field at the head of octets
 field_sound : (ys : List ℕ) → address_fine ys ≡ true → LawfulField (take (1 + content_size ys) ys) × (1 + content_size ys ≤ length ys)
-field_sound [] h =
-    let z : ◌≡◌ {A = ℕ} 0 1 = cc in
-    absurd (omega arith)
+field_sound [] h = absurd (false≢true h)
 field_sound (y ∷ ys) h =
     let n = content_size (y ∷ ys) in
-    let i : 1 + n ≤ length (y ∷ ys) = leb-true (1 + n) (length (y ∷ ys)) (and_left (leb (1 + n) (length (y ∷ ys))) (content_fine (y / 32) (take n ys)) h) in
+    let both = and_parts (leb (1 + n) (length (y ∷ ys))) (content_fine (y / 32) (take n ys)) h in
+    let i : 1 + n ≤ length (y ∷ ys) = leb-true (1 + n) (length (y ∷ ys)) both.0 in
     let t : take (1 + n) (y ∷ ys) ≡ y ∷ take n ys = ap (λ k. take k (y ∷ ys)) (one-add n) in
     let l : length (y ∷ take n ys) ≡ 1 + n = omega (arith, length-take-le n ys (omega (arith, i))) in
     let P : List ℕ → Type 0 = LawfulField in
-    (subst P (sym t) (l, and_right (leb (1 + n) (length (y ∷ ys))) (content_fine (y / 32) (take n ys)) h), i)
+    (subst P (sym t) (l, both.1), i)
 
 -- the first octet of a type
 flag_is : (x k : ℕ) (b : Bool) → x / 2 ≡ k → eqb (x % 2) 1 ≡ b → x ≡ cond b (k + k + 1) (k + k)
@@ -187,15 +179,11 @@ by_kind (suc (suc (suc (suc (suc zero))))) x tail a b = release_sound x tail
 by_kind (suc (suc (suc (suc (suc (suc k)))))) x tail a b = absurd (omega arith)
 
 stands_there : (xs : List ℕ) → AllHold (start_questions xs) → AllHold (form_of (kind_in xs) (more xs) xs).questions → Stands xs (form_of (kind_in xs) (more xs) xs).stands
-stands_there [] s h =
-    let e = s.0 in
-    let z : ◌≡◌ {A = ℕ} 0 1 = cc in
-    absurd (omega arith)
+stands_there [] s h = absurd (false≢true s.0)
 stands_there (x ∷ tail) s h =
     let k = kind_in (x ∷ tail) in
-    let a = leb-true 1 k (and_left (leb 1 k) (leb k 5) s.1.1.0) in
-    let b = leb-true k 5 (and_right (leb 1 k) (leb k 5) s.1.1.0) in
-    by_kind k x tail a b h s.1.1.1.0 refl
+    let both = and_parts (leb 1 k) (leb k 5) s.1.1.0 in
+    by_kind k x tail (leb-true 1 k both.0) (leb-true k 5 both.1) h s.1.1.1.0 refl
 
 pub sound : Sound
 sound xs p e =

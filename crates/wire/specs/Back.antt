@@ -1,6 +1,7 @@
 -- What was written reads back as what was sent.
 use Rattle.std.specs.Prelude.{◌≡◌, ℕ, ◌+◌, ◌≤◌, List, length, take, IfOk, Some, None, Ok, Option, Result}
 use Rattle.terms.specs.declared.refusal.Refusal.{Refusal}
+use Rattle.terms.specs.Buffer.{answer_of, left_in}
 use Rattle.wire.specs.declared.header.Ports.{Ports}
 use Rattle.wire.specs.declared.header.SegmentAt.{SegmentAt}
 use Rattle.wire.specs.Segment.{Numbers}
@@ -43,3 +44,9 @@ ReadsBack = (w : sent.Message) → Lawful w → read.reading (sent.written w) �
 -- whoever reads the octets that a writer told has the message
 abbrev pub ReadsAs : sent.Message → Result ℕ Refusal → List ℕ → Type 0
 ReadsAs w r buffer = IfOk r (λ n. read.reading (take n buffer) ≡ Ok (read_as w))
+
+-- all that a writer promises, of octets that are the message's
+pub record Writes (w : sent.Message) (old new : List ℕ) (r : Result ℕ Refusal) : Type 0 where
+  pub answer : r ≡ answer_of (sent.written w) old
+  pub after : new ≡ left_in (sent.written w) old
+  pub back : ReadsAs w r new

@@ -1,4 +1,4 @@
-use Rattle.std.specs.Prelude.{ℕ, cond, Some, None, Option, ◌==◌}
+use Rattle.std.specs.Prelude.{ℕ, cond, List, Some, None, codes, Option, ◌==◌}
 use Rattle.wire.specs.declared.code.ErrorCode.{ErrorCode}
 use Rattle.wire.specs.declared.code.ErrorCode.TheVariants as error
 use Rattle.wire.specs.declared.code.ReleaseCode.{ReleaseCode}
@@ -14,6 +14,12 @@ error_number error.Addressing = 3
 abbrev pub error_numbered : ℕ → Option ErrorCode
 error_numbered n = cond (n == 0) (Some error.Unknown) (cond (n == 1) (Some error.Protocol) (cond (n == 2) (Some error.Version) (cond (n == 3) (Some error.Addressing) None)))
 
+abbrev pub error_name : ErrorCode → List ℕ
+error_name error.Unknown = codes "unknown"
+error_name error.Protocol = codes "protocol error"
+error_name error.Version = codes "version"
+error_name error.Addressing = codes "external addressing not supported"
+
 -- release codes: 0 unknown, 1 timer, 2 idle, 3 user
 abbrev pub release_number : ReleaseCode → ℕ
 release_number release.Unknown = 0
@@ -23,3 +29,9 @@ release_number release.User = 3
 
 abbrev pub release_numbered : ℕ → Option ReleaseCode
 release_numbered n = cond (n == 0) (Some release.Unknown) (cond (n == 1) (Some release.Timer) (cond (n == 2) (Some release.Idle) (cond (n == 3) (Some release.User) None)))
+
+abbrev pub release_name : ReleaseCode → List ℕ
+release_name release.Unknown = codes "unknown"
+release_name release.Timer = codes "timer"
+release_name release.Idle = codes "idle"
+release_name release.User = codes "user"

@@ -1,5 +1,5 @@
 -- The header: a length octet, and elements that fill the octets it tells.
-use Rattle.std.specs.Prelude.{ℕ, zero, suc, ◌+◌, ◌*◌, Bool, true, false, cond, ◌&&◌, List, [], ◌∷◌, ◌++◌, length, take, Some, None, Option, ◌==◌, nat_le, slice_index}
+use Rattle.std.specs.Prelude.{ℕ, zero, suc, ◌+◌, ◌*◌, ◌/◌, ◌%◌, Bool, true, false, cond, ◌&&◌, List, [], ◌∷◌, ◌++◌, length, take, Some, None, Option, ◌==◌, nat_le, slice_index}
 use Rattle.terms.specs.declared.fault.Layer.TheVariants.{Header}
 use Rattle.terms.specs.declared.fault.Fault.{Fault}
 use Rattle.wire.specs.declared.header.Ports.{Ports}
@@ -48,6 +48,9 @@ fine_of kind xs =
 -- destination and source port, high octet first
 abbrev pub ports_in : List ℕ → Ports
 ports_in xs = record { to = slice_index xs 0 * 256 + slice_index xs 1; from = slice_index xs 2 * 256 + slice_index xs 3 }
+
+abbrev pub ports_octets : Ports → List ℕ
+ports_octets p = p.to / 256 ∷ p.to % 256 ∷ p.from / 256 ∷ p.from % 256 ∷ []
 
 -- the numbers of a segment, whose element stands at `at`
 abbrev pub segment_in : ℕ → List ℕ → SegmentAt

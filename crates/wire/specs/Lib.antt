@@ -1,9 +1,11 @@
 pub mod Address
 pub mod Back
 pub mod Code
+pub mod Elements
 pub mod Format
 pub mod Header
 pub mod Kind
+pub mod NoSuchNumber
 pub mod Number
 pub mod Pdu
 pub mod Segment

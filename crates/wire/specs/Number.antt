@@ -1,5 +1,6 @@
 -- MSISDNs: a number as text, its digits, and the address field that holds it.
-use Rattle.std.specs.Prelude.{ℕ, ◌+◌, ◌-◌, ◌*◌, ◌/◌, Bool, true, cond, ◌&&◌, List, [], ◌∷◌, length, is_some, Some, None, Option, ◌==◌, nat_le}
+use Rattle.std.specs.Prelude.{ℕ, ◌+◌, ◌-◌, ◌*◌, ◌/◌, Bool, cond, ◌&&◌, List, [], ◌∷◌, length, is_some, Some, None, Option, ◌==◌, nat_le}
+use Rattle.std.specs.List.{list_all}
 use Rattle.std.specs.Option.{unwrap_or}
 use Rattle.wire.specs.declared.kind.AddressKind.TheVariants.{Msisdn}
 use Rattle.wire.specs.declared.kind.NumberType.{NumberType}
@@ -12,8 +13,7 @@ semi_of c =
     (cond (c == 0x2A) (Some 10) (cond (c == 0x23) (Some 11) (cond (c == 0x61) (Some 12) (cond (c == 0x62) (Some 13) (cond (c == 0x63) (Some 14) None)))))
 
 abbrev pub all_digits : List ℕ → Bool
-all_digits [] = true
-all_digits (c ∷ cs) = is_some (semi_of c) && all_digits cs
+all_digits t = list_all (λ c. is_some (semi_of c)) t
 
 -- a number is 1 to 20 characters, each of which has a semi-octet
 abbrev pub lawful_text : List ℕ → Bool

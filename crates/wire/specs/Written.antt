@@ -1,17 +1,17 @@
 -- What is sent, and the octets that it is written as.
-use Rattle.std.specs.Prelude.{ℕ, ◌+◌, ◌/◌, ◌%◌, Bool, true, false, List, [], ◌∷◌, ◌++◌, Some, None, Option}
+use Rattle.std.specs.Prelude.{ℕ, ◌+◌, Bool, true, false, List, [], ◌∷◌, ◌++◌, Some, None, Option}
 use Rattle.wire.specs.declared.kind.Kind.TheVariants as kind
 use Rattle.wire.specs.declared.header.Ports.{Ports}
 use Rattle.wire.specs.declared.code.ErrorCode.{ErrorCode}
 use Rattle.wire.specs.declared.code.ReleaseCode.{ReleaseCode}
 use Rattle.wire.specs.Code.{error_number, release_number}
 use Rattle.wire.specs.Segment.{Numbers}
-use Rattle.wire.specs.Header.{Element, ports_kind, segment_kind}
+use Rattle.wire.specs.Header.{Element, ports_kind, segment_kind, ports_octets}
 use Rattle.wire.specs.Format.{opening, header_of}
 
 -- destination and source port, high octet first
 abbrev pub ports_element : ℕ → Ports → Element
-ports_element at p = record { at = at; kind = ports_kind; octets = p.to / 256 ∷ p.to % 256 ∷ p.from / 256 ∷ p.from % 256 ∷ []; whole = true }
+ports_element at p = record { at = at; kind = ports_kind; octets = ports_octets p; whole = true }
 
 -- reference, count and sequence
 abbrev pub segment_elements : ℕ → Option Numbers → List Element

@@ -1,72 +1,105 @@
 ghost use Rattle.std.specs.Prelude.{◌≡◌};
+ghost use Rattle.wire.specs.NoSuchNumber.{named};
 ghost use Rattle.wire.specs.Code.{error_number, error_numbered, release_number, release_numbered};
+
+use crate::no_such_number::NoSuchNumber;
+use std::fmt;
 
 // Why a string could not be taken, as an Error PDU tells it.
 #[derive(Clone, Copy, PartialEq, Eq, Debug)]
 pub enum ErrorCode {
-    Unknown,
-    Protocol,
-    Version,
-    Addressing,
+    Unknown = 0,
+    Protocol = 1,
+    Version = 2,
+    Addressing = 3,
 }
 
 impl ErrorCode {
     pub fn number(self) -> u8
         ensures { result ≡ error_number self }
     {
-        match self {
-            ErrorCode::Unknown => 0,
-            ErrorCode::Protocol => 1,
-            ErrorCode::Version => 2,
-            ErrorCode::Addressing => 3,
-        }
+        self as u8
     }
+}
 
-    // The code of a number, if there is one.
-    pub fn numbered(n: u8) -> Option<ErrorCode>
-        ensures { result ≡ error_numbered n }
-    {
-        match n {
-            0 => Some(ErrorCode::Unknown),
-            1 => Some(ErrorCode::Protocol),
-            2 => Some(ErrorCode::Version),
-            3 => Some(ErrorCode::Addressing),
-            _ => None,
+impl TryFrom<u8> for ErrorCode {
+    type Error = NoSuchNumber;
+
+    ghost try_from_gives = { λ n r. r ≡ named (error_numbered n) };
+
+    fn try_from(number: u8) -> Result<ErrorCode, NoSuchNumber> {
+        match number {
+            0 => Ok(ErrorCode::Unknown),
+            1 => Ok(ErrorCode::Protocol),
+            2 => Ok(ErrorCode::Version),
+            3 => Ok(ErrorCode::Addressing),
+            _ => Err(NoSuchNumber),
         }
     }
 }
 
-// Why a dialogue is released, as an RD PDU tells it.
+impl fmt::Display for ErrorCode {
+    ghost use Rattle.std.specs.Prelude.{Some};
+    ghost use Rattle.wire.specs.Code.{error_name};
+
+    ghost output = { λ code. Some (error_name code) };
+
+    fn fmt<W: fmt::Write>(&self, f: &mut fmt::Formatter<W>) -> fmt::Result {
+        f.write_str(match self {
+            ErrorCode::Unknown => "unknown",
+            ErrorCode::Protocol => "protocol error",
+            ErrorCode::Version => "version",
+            ErrorCode::Addressing => "external addressing not supported",
+        })
+    }
+}
+
+// Why a dialogue is released, as an RD PDU tells it. It stands beside ErrorCode, which has the same shape: one text for both would need a
+// trait with two tables, and is no plainer.
 #[derive(Clone, Copy, PartialEq, Eq, Debug)]
 pub enum ReleaseCode {
-    Unknown,
-    Timer,
-    Idle,
-    User,
+    Unknown = 0,
+    Timer = 1,
+    Idle = 2,
+    User = 3,
 }
 
 impl ReleaseCode {
     pub fn number(self) -> u8
         ensures { result ≡ release_number self }
     {
-        match self {
-            ReleaseCode::Unknown => 0,
-            ReleaseCode::Timer => 1,
-            ReleaseCode::Idle => 2,
-            ReleaseCode::User => 3,
+        self as u8
+    }
+}
+
+impl TryFrom<u8> for ReleaseCode {
+    type Error = NoSuchNumber;
+
+    ghost try_from_gives = { λ n r. r ≡ named (release_numbered n) };
+
+    fn try_from(number: u8) -> Result<ReleaseCode, NoSuchNumber> {
+        match number {
+            0 => Ok(ReleaseCode::Unknown),
+            1 => Ok(ReleaseCode::Timer),
+            2 => Ok(ReleaseCode::Idle),
+            3 => Ok(ReleaseCode::User),
+            _ => Err(NoSuchNumber),
         }
     }
+}
 
-    // The code of a number, if there is one.
-    pub fn numbered(n: u8) -> Option<ReleaseCode>
-        ensures { result ≡ release_numbered n }
-    {
-        match n {
-            0 => Some(ReleaseCode::Unknown),
-            1 => Some(ReleaseCode::Timer),
-            2 => Some(ReleaseCode::Idle),
-            3 => Some(ReleaseCode::User),
-            _ => None,
-        }
+impl fmt::Display for ReleaseCode {
+    ghost use Rattle.std.specs.Prelude.{Some};
+    ghost use Rattle.wire.specs.Code.{release_name};
+
+    ghost output = { λ code. Some (release_name code) };
+
+    fn fmt<W: fmt::Write>(&self, f: &mut fmt::Formatter<W>) -> fmt::Result {
+        f.write_str(match self {
+            ReleaseCode::Unknown => "unknown",
+            ReleaseCode::Timer => "timer",
+            ReleaseCode::Idle => "idle",
+            ReleaseCode::User => "user",
+        })
     }
 }

@@ -2,7 +2,9 @@
 #![tactic(auto)]
 
 pub mod code;
+pub mod elements;
 pub mod header;
 pub mod kind;
+pub mod no_such_number;
 pub mod pdu;
 pub mod segment;

@@ -1,12 +1,12 @@
 ghost use Rattle.std.specs.Prelude.{◌≡◌, ◌≤◌, length};
 ghost use Rattle.wording.specs.Address.{seen, seen_in, address_in, number_in, address_name, address_word, character_of};
 
-use addresses::lawful::stands;
+use addresses::lawful::size;
 use std::fmt;
-use wire::kind::NumberType;
+use wire::kind::{AddressKind, NumberType};
 
 // An address, by the octets of its field; the digits of a number stand two to an octet.
-#[derive(Clone, Copy)]
+#[derive(Clone, Copy, PartialEq, Eq, Debug)]
 pub enum Address<'a> {
     Ipv4(&'a [u8]),
     Ipv6(&'a [u8]),
@@ -18,15 +18,11 @@ impl<'a> Address<'a> {
     pub fn in_field(field: &'a [u8]) -> Option<Address<'a>>
         ensures { seen_in result ≡ address_in field.now }
     {
-        if !stands(field) {
-            return None;
-        }
-        let n = field[0] as usize % 32;
-        let content = &field[1..1 + n];
-        match field[0] / 32 {
-            0 => Some(Address::Ipv4(content)),
-            1 => Some(Address::Ipv6(content)),
-            _ => Some(number(content)),
+        let content = &field[1..size(field)?];
+        match AddressKind::try_from(field[0] / 32).ok()? {
+            AddressKind::Ipv4 => Some(Address::Ipv4(content)),
+            AddressKind::Ipv6 => Some(Address::Ipv6(content)),
+            AddressKind::Msisdn => Some(number(content)),
         }
     }
 
@@ -41,7 +37,7 @@ impl<'a> Address<'a> {
         }
     }
 
-    // The word before the address in a result line.
+    // The word before the address in a result line. Kept beside the name above: a table of both would be no plainer.
     pub fn word(self) -> &'static str
         ensures { result.now ≡ address_word (seen self.entry) }
     {
@@ -54,24 +50,17 @@ impl<'a> Address<'a> {
 }
 
 // The number in a field's content: digit count, type octet, digits.
-fn number<'a>(content: &'a [u8]) -> Address<'a>
+fn number(content: &[u8]) -> Address<'_>
     requires { 2 ≤ length content.now }
     ensures { seen result ≡ number_in content.now }
 {
-    let digits = &content[2..];
-    if content[1] == 0x91 {
-        return Address::Msisdn {
-            of: NumberType::International,
-            digits,
-        };
-    }
     Address::Msisdn {
-        of: NumberType::Unknown,
-        digits,
+        of: NumberType::try_from(content[1]).unwrap_or(NumberType::Unknown),
+        digits: &content[2..],
     }
 }
 
-// The character of a semi-octet; 15 is none.
+// The character of a semi-octet; 15 is none. No `TryFrom`: both types are std's.
 pub fn character(semi: u8) -> Option<char>
     ensures { result ≡ character_of semi }
 {
@@ -109,11 +98,10 @@ fn show_ipv6<W: fmt::Write>(octets: &[u8], f: &mut fmt::Formatter<W>) -> fmt::Re
 // The digits in their octets, the low half first; the 15 that fills the last octet is no digit.
 fn show_digits<W: fmt::Write>(octets: &[u8], f: &mut fmt::Formatter<W>) -> fmt::Result {
     for b in octets {
-        if let Some(c) = character(*b % 16) {
-            write!(f, "{c}")?;
-        }
-        if let Some(c) = character(*b / 16) {
-            write!(f, "{c}")?;
+        for semi in [*b % 16, *b / 16] {
+            if let Some(c) = character(semi) {
+                write!(f, "{c}")?;
+            }
         }
     }
     Ok(())

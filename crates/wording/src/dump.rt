@@ -1,4 +1,4 @@
-ghost use Rattle.std.specs.Prelude.{◌≡◌};
+ghost use Rattle.std.specs.Prelude.{◌≡◌, ◌≤◌};
 ghost use Rattle.wording.specs.Mark.{mark_at};
 
 use std::fmt;
@@ -11,7 +11,7 @@ pub struct Dump<'a> {
 }
 
 // Where a mark stands: below which row, and below which octet of it.
-#[derive(Clone, Copy)]
+#[derive(Clone, Copy, PartialEq, Eq, Debug)]
 pub struct Mark {
     pub row: usize,
     pub column: usize,
@@ -40,21 +40,20 @@ fn show_row<W: fmt::Write>(row: &[u8], f: &mut fmt::Formatter<W>) -> fmt::Result
     for b in row {
         write!(f, " {b:02X}")?;
     }
-    write!(f, "\n")
+    writeln!(f)
 }
 
-fn show_mark<W: fmt::Write>(column: usize, f: &mut fmt::Formatter<W>) -> fmt::Result {
-    write!(f, "  ")?;
-    for _ in 0..column {
-        write!(f, "   ")?;
-    }
-    write!(f, "^^\n")
+fn show_mark<W: fmt::Write>(column: usize, f: &mut fmt::Formatter<W>) -> fmt::Result
+    requires { column ≤ 16 }
+{
+    let indent = 2 + 3 * column;
+    writeln!(f, "{:indent$}^^", "")
 }
 
 impl fmt::Display for Dump<'_> {
     fn fmt<W: fmt::Write>(&self, f: &mut fmt::Formatter<W>) -> fmt::Result {
         if self.octets.is_empty() {
-            return write!(f, "  -\n  ^^\n");
+            return writeln!(f, "  -\n  ^^");
         }
         let mark = Mark::at(self.place, self.octets.len());
         for (i, row) in self.octets.chunks(16).enumerate() {

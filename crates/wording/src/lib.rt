@@ -3,6 +3,5 @@
 
 pub mod address;
 pub mod dump;
-pub mod kind;
 pub mod octets;
 pub mod words;

@@ -2,7 +2,7 @@ use crate::address::Address;
 use crate::octets::HexOctets;
 use std::fmt;
 use terms::fault::Fault;
-use wire::header::SegmentAt;
+use wire::header::{Ports, SegmentAt};
 use wire::pdu::{Body, Part, Pdu};
 
 // The words that stand for a PDU in a result line.
@@ -19,12 +19,14 @@ struct Piece(Option<SegmentAt>);
 impl fmt::Display for Piece {
     fn fmt<W: fmt::Write>(&self, f: &mut fmt::Formatter<W>) -> fmt::Result {
         match self.0 {
-            Some(at) => {
-                let reference = at.reference;
-                let count = at.count;
-                let sequence = at.sequence;
-                write!(f, "{reference}/{count}/{sequence}")
-            }
+            Some(
+                SegmentAt {
+                    reference,
+                    count,
+                    sequence,
+                    ..
+                },
+            ) => write!(f, "{reference}/{count}/{sequence}"),
             None => write!(f, "-"),
         }
     }
@@ -35,11 +37,10 @@ struct BodyWords<'a>(Body<'a>);
 
 impl fmt::Display for BodyWords<'_> {
     fn fmt<W: fmt::Write>(&self, f: &mut fmt::Formatter<W>) -> fmt::Result {
-        let to = self.0.ports.to;
-        let from = self.0.ports.from;
+        let Ports { to, from } = self.0.ports;
         let piece = Piece(self.0.segment);
-        let place = self.0.user.place;
-        let octets = HexOctets(self.0.user.octets);
+        let Part { place, octets } = self.0.user;
+        let octets = HexOctets(octets);
         write!(f, "to={to} from={from} piece={piece} user={place}:{octets}")
     }
 }
@@ -90,9 +91,12 @@ impl fmt::Display for PduWords<'_> {
 
 impl fmt::Display for FaultWords {
     fn fmt<W: fmt::Write>(&self, f: &mut fmt::Formatter<W>) -> fmt::Result {
-        let cause = self.0.cause.number();
-        let place = self.0.place;
-        let layer = self.0.layer;
+        let Fault {
+            cause,
+            place,
+            layer,
+        } = self.0;
+        let cause = cause.number();
         write!(f, "fault cause={cause} place={place} layer={layer}")
     }
 }

@@ -1,1 +1,1 @@
-pub mod Layings
+pub mod Segments

@@ -1,24 +1,24 @@
-ghost use Rattle.std.specs.Prelude.{◌≡◌, ◌+◌, ◌≤◌, length};
-ghost use Rattle.terms.specs.Buffer.{laid, answer_of, left_in};
+ghost use Rattle.std.specs.Prelude.{◌≡◌};
+ghost use Rattle.std.specs.List.{flat_map};
+ghost use Rattle.terms.specs.Buffer.{answer_of, left_in};
 
 use terms::refusal::Refusal;
 
-// Lays octets into a buffer from place `at` on.
-pub(crate) fn put(out: &mut [u8], at: usize, xs: &[u8])
-    requires { at + length xs.now ≤ length out.old }
-    ensures { out.new ≡ laid at xs.now out.old }
+// Some parts, one behind the other, at the head of a buffer.
+pub(crate) fn write_all(parts: &[&[u8]], out: &mut [u8]) -> Result<usize, Refusal>
+    ensures answer { result ≡ answer_of (flat_map (λ part. part.now) parts.now) out.old }
+    ensures after { out.new ≡ left_in (flat_map (λ part. part.now) parts.now) out.old }
 {
-    out[at..at + xs.len()].copy_from_slice(xs);
-}
-
-// Octets at the head of a buffer.
-pub(crate) fn write_all(out: &mut [u8], xs: &[u8]) -> Result<usize, Refusal>
-    ensures answer { result ≡ answer_of xs.now out.old }
-    ensures after { out.new ≡ left_in xs.now out.old }
-{
-    if xs.len() > out.len() {
-        return Err(Refusal::Buffer);
+    let mut room = out.len();
+    for part in parts {
+        room = room.checked_sub(part.len()).ok_or(Refusal::Buffer)?;
     }
-    put(out, 0, xs);
-    Ok(xs.len())
+    // Counted beside the loop: the place of the next part is at last the answer.
+    let mut at = 0;
+    for part in parts {
+        let end = at + part.len();
+        out[at..end].copy_from_slice(part);
+        at = end;
+    }
+    Ok(at)
 }

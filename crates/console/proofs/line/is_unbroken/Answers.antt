@@ -1,29 +1,21 @@
-use Rattle.std.proofs.Common.{◌<◌, ◌≤◌, not, length, ap, ◌∙◌, rules}
-use Rattle.std.proofs.lemmas.List.{take_rest}
-use Rattle.console.specs.Line.{groups, all_empty}
-use Rattle.console.proofs.Lines.{unbroken_from, from_end, from_half, from_digit, from_space}
+use Rattle.std.proofs.Common.{◌==◌, length, ◌∙◌, rules}
+use borrow.Author.Tests.{tests}
+use Rattle.std.proofs.lemmas.Iterator.Adapters.{YieldsList-from_skip, YieldsList-from_skip_while}
+use Rattle.std.proofs.lemmas.Iterator.Consumers.{YieldsList-at}
+use Rattle.std.proofs.lemmas.Iterator.Search.{all_from_yields_List}
+use Rattle.std.proofs.lemmas.Iterator.Splits.{YieldsList-from_slice_split}
+use Rattle.console.specs.Line.{is_space, groups}
+use Rattle.console.proofs.Groups.{even, behind_half}
 use Rattle.console.proofs.line.is_unbroken.Goals as goal
-
-pub returns-then-half : goal.returns-then-half
-returns-then-half c =
-    let rest = c.loop-rest.rest.now in
-    let h : 1 ≤ length rest = search rules in
-    c.is_blank.ensures ∙ ap (λ v. all_empty (groups v)) (take_rest rest 1) ∙ from_half c.loop-rest.half rest h c.if-c-ne32.false c.if-half.true ∙ c.loop-rest.invariant
-
-pub loop-rest-preserved-then-c-ne32 : goal.loop-rest-preserved-then-c-ne32
-loop-rest-preserved-then-c-ne32 c =
-    let rest = c.loop-rest.rest.now in
-    let h : 1 ≤ length rest = search rules in
-    ap (λ v. unbroken_from (not c.loop-rest.half) (groups v)) (take_rest rest 1) ∙ from_digit c.loop-rest.half rest h c.if-c-ne32.true ∙ c.loop-rest.invariant
-
-pub loop-rest-preserved : goal.loop-rest-preserved
-loop-rest-preserved c =
-    let rest = c.loop-rest.rest.now in
-    let h : 1 ≤ length rest = search rules in
-    ap (λ v. unbroken_from c.loop-rest.half (groups v)) (take_rest rest 1) ∙ from_space c.loop-rest.half rest h c.if-c-ne32.false c.if-half.false ∙ c.loop-rest.invariant
 
 pub returns : goal.returns
 returns c =
-    let rest = c.loop-rest.rest.now in
-    let h : length rest < 1 = search rules in
-    from_end c.loop-rest.half rest h ∙ c.loop-rest.invariant
+    all_from_yields_List (λ w. length w == 0) _ _ _ c.all.ensures.ran
+    (YieldsList-from_skip 1
+    (YieldsList-at c.skip.ensures.source
+    (YieldsList-from_skip_while _ _ _ even _ (λ x b q k. search (rules, tests))
+    (YieldsList-at c.skip_while.ensures.source (YieldsList-from_slice_split _ is_space c.args.line.now c.split.ensures.rest c.split.ensures.done c.split.ensures.closure (λ x b q k. search (rules, tests))))
+    c.skip_while.ensures.closure c.skip_while.ensures.done_skipping))
+    c.skip.ensures.count)
+    (λ x b q k. search (rules, tests))
+    ∙ behind_half (groups c.args.line.now)

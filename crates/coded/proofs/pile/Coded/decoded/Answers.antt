@@ -1,13 +1,10 @@
 use Rattle.std.proofs.Common.{arith}
-use Rattle.coded.specs.Strings.{held, told_err}
+use Rattle.coded.specs.Strings.{held, told}
 use Rattle.coded.proofs.pile.Coded.decoded.Goals as goal
 
-pub returns-in-Err : goal.returns-in-Err
-returns-in-Err g c =
-    let k = g.C.Coding in
-    let me = c.args.self.now in
-    let laws = g.met.C.Coding.lawful me.coding in
-    let ys = c.args.text.now in
-    let place = c.args.place.now in
-    let p = told_err (k.decoded me.coding ys) place _ c.in-Err.field-0 (held k.top (k.encoded me.coding) (k.decoded me.coding) (k.size me.coding) laws ys place (omega (arith, c.requires, c.fits-place))) c.in-Err.ensures.answer c.in-Err.ensures.after in
+pub returns : goal.returns
+returns g c =
+    let laws = g.met.C.Coding.lawful c.args.self.now.coding in
+    let room = held laws c.args.text.now c.args.place.now (omega (arith, c.requires)) in
+    let p = told _ _ c.args.place.now _ c.decode.result c.map_err.result room c.decode.ensures.answer c.decode.ensures.after c.map_err.ensures.cases c.map_err.ensures.variant in
     record { answer = p.0; place = p.1 }

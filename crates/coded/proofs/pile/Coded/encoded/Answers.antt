@@ -1,26 +1,20 @@
-use Rattle.std.proofs.Common.{◌≤◌, length, arith}
-use Rattle.coded.specs.Strings.{fits, written, written_not}
+use Rattle.std.proofs.Common.{◌≡◌, length, take, ap, ◌∙◌, refl, arith}
+use Rattle.coded.specs.Strings.{fits, written}
 use Rattle.coded.proofs.pile.Coded.encoded.Goals as goal
 
-pub returns-in-Ok : goal.returns-in-Ok
-returns-in-Ok g c =
-    let k = g.C.Coding in
+pub unwrap-n-requires : goal.unwrap-n-requires
+unwrap-n-requires g c =
     let me = c.args.self.now in
-    let laws = g.met.C.Coding.lawful me.coding in
-    let xs = c.args.octets.now in
-    let m = g.B.Bearer.meaning me.below in
-    let long = (g.met.B.Bearer.figured me.below).long in
-    let room : length (k.encoded me.coding xs) ≤ length c.args.string.now = omega (arith, fits k.top (k.encoded me.coding) (k.decoded me.coding) (k.size me.coding) laws m.longest xs c.requires, long, c.fits-string) in
-    let p = written (k.encoded me.coding xs) c.args.string.now c.encode.new.out c.in-Ok.n room c.in-Ok.ensures.answer c.in-Ok.ensures.after in
-    record { count = omega (arith, p.0, fits k.top (k.encoded me.coding) (k.decoded me.coding) (k.size me.coding) laws m.longest xs c.requires, long); octets = p.1 }
+    let short = fits (g.met.C.Coding.lawful me.coding) (g.B.Bearer.meaning me.below).longest c.args.octets.now c.requires in
+    let p = written _ c.args.string.now _ c.encode.result (omega (arith, short, (g.met.B.Bearer.figured me.below).long)) c.encode.ensures.answer c.encode.ensures.after in
+    rw p.0 refl
 
-pub returns-in-Err : goal.returns-in-Err
-returns-in-Err g c =
-    let k = g.C.Coding in
+pub returns : goal.returns
+returns g c =
     let me = c.args.self.now in
-    let laws = g.met.C.Coding.lawful me.coding in
-    let xs = c.args.octets.now in
-    let m = g.B.Bearer.meaning me.below in
+    let xs = g.C.Coding.encoded me.coding c.args.octets.now in
+    let short = fits (g.met.C.Coding.lawful me.coding) (g.B.Bearer.meaning me.below).longest c.args.octets.now c.requires in
     let long = (g.met.B.Bearer.figured me.below).long in
-    let room : length (k.encoded me.coding xs) ≤ length c.args.string.now = omega (arith, fits k.top (k.encoded me.coding) (k.decoded me.coding) (k.size me.coding) laws m.longest xs c.requires, long, c.fits-string) in
-    absurd (written_not (k.encoded me.coding xs) c.args.string.now c.in-Err.field-0 room c.in-Err.ensures.answer)
+    let p = written xs c.args.string.now _ c.encode.result (omega (arith, short, long)) c.encode.ensures.answer c.encode.ensures.after in
+    let n : c.unwrap-n.result ≡ length xs = cc (p.0, c.unwrap-n.ensures) in
+    ap (λ k. take k c.encode.new.out) n ∙ p.1

@@ -1,2 +1,0 @@
-pub mod Agreeing
-pub mod Asked
