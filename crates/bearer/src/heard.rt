@@ -5,7 +5,7 @@ use terms::cause::Cause;
 use terms::fault::{Fault, Layer};
 use terms::stop::Stop;
 
-// The string under way is no string of octets within the figures. What is heard of one is this, or how many octets were copied.
+// The string under way is no string of octets within the figures. What is heard of a string is this, or how many octets were copied.
 #[derive(Clone, Copy, PartialEq, Eq, Debug)]
 pub struct Garbled;
 

@@ -54,7 +54,7 @@ pub trait Bearer {
     fn code(&self) -> Code
         ensures { code_octets result ≡ code_of (meaning self.now) };
 
-    // The string under way, whoever it is for: its octets are copied.
+    // The string under way, whoever it is for: its octets are copied. The place stays a buffer of the caller's, as in `take`.
     fn under_way(&self, place: &mut [u8; 160]) -> Option<Result<usize, Garbled>>
         ensures answer { result ≡ text_of (string_of (meaning self.now)) }
         ensures place { place.new ≡ over (string_of (meaning self.now)) place.old };

@@ -6,8 +6,8 @@ use crate::questions::{all_low, is_lawful};
 use crate::side::{Highest, Side, Standing};
 use terms::refusal::Refusal;
 
-// What a bearer tells of itself, an answer for each of its questions. Each method puts a call's questions to it, in their order; they are put to
-// `is_open` and to `standing`, whatever the one says of the other.
+// What a bearer tells of itself that its calls' questions are put to. Each method asks a call's questions in their order, of `is_open` and
+// of `standing`, whatever the one says of the other.
 #[derive(Clone, Copy, PartialEq, Eq, Debug)]
 pub struct Told {
     pub is_open: bool,

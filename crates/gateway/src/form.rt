@@ -23,7 +23,7 @@ fn inside<'a>(front: &[u8], back: &[u8], line: &'a [u8]) -> Option<&'a [u8]>
     line.strip_prefix(front)?.strip_suffix(back)
 }
 
-// The octets of a USSD string in hexadecimal.
+// The string that text in hexadecimal stands for, if it is such text and the string has at most 160 octets.
 fn unhexed(text: &[u8]) -> Option<Ussd>
     ensures { option_map octets_of result ≡ shortly (unhex text.now) }
 {

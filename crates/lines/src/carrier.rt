@@ -30,7 +30,7 @@ impl<L: Line> Carrier<L> {
         }
     }
 
-    // On a line that is as new.
+    // New, on a line as `Default` makes it; it is closed.
     pub fn closed(latest: u32, highest: Highest) -> Carrier<L>
     where
         L: Default,

@@ -9,7 +9,7 @@ use terms::fault::{Fault, Layer};
 use wire::elements::{Element, Elements};
 use wire::header::{Found, PORTS, Ports, SEGMENT, Segment, SegmentAt};
 
-// A header or an element of one is wrong.
+// A header or an element of one is wrong. Beside `From<Overrun>`, for what is wrong and overruns nothing.
 pub(crate) fn wrong(place: usize) -> Fault
     ensures { result ≡ fault_of 45 place Layer.Header }
 {

@@ -36,6 +36,7 @@ impl Listening {
         if b.number() != self.number {
             return Err((Refusal::NotOpen, self));
         }
+        // No `?`: the refusal hands the session back.
         match sorted(b.take(self.side, place)) {
             Ok(heard) => Ok((heard, self.turned())),
             Err(why) => Err((why, self)),

@@ -8,7 +8,8 @@ use std::marker::PhantomData;
 use terms::refusal::Refusal;
 use terms::stop::Stop;
 
-// What a session does whoever has the turn. A refusal hands the session back, so its calls match where a `?` would lose it.
+// What a session does whoever has the turn. A refusal hands the session back, so its calls match where a `?` would lose it, and
+// each tests the number itself, since each hands on another type.
 impl<T> Session<T> {
     pub(crate) fn new(number: u32, side: Side) -> Session<T>
         ensures { result ≡ session_in number side }

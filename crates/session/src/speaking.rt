@@ -31,6 +31,7 @@ impl Speaking {
         if b.number() != self.number {
             return Err((Refusal::NotOpen, self));
         }
+        // No `?`: the refusal hands the session back.
         match b.give(self.side, octets) {
             Ok(()) => Ok(self.turned()),
             Err(why) => Err((why, self)),

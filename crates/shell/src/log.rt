@@ -13,7 +13,7 @@ use terms::refusal::Refusal;
 
 // A kind of line, with the form in which a log of it gives the raw strings.
 pub(crate) trait Logged: Line + Default + Drop {
-    // Plays an entry that stands in the input line with a number.
+    // Plays an entry that stands in the input line of that number.
     fn played(
         player: &mut Player<Self>,
         number: u64,

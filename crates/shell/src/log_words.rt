@@ -5,7 +5,7 @@ use terms::stop::Stop;
 use wire::pdu::Pdu;
 use wording::words::{FaultWords, PduWords};
 
-// The result line of an entry, behind the dialogue's number and service code.
+// The result line of an entry: the dialogue's number and service code, and what came of the entry.
 #[derive(Clone, Copy)]
 pub(crate) struct ResultLine<'a> {
     pub(crate) number: u32,

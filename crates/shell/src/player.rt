@@ -18,7 +18,7 @@ pub(crate) struct Player<L> {
 }
 
 impl<L: Line + Default> Player<L> {
-    // On a new bearer.
+    // A player on a new bearer, which is closed.
     pub(crate) fn new(heap: Global, asked: Options) -> Player<L> {
         Player {
             heap,

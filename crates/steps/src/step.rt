@@ -242,6 +242,7 @@ impl fmt::Display for Step<'_> {
                 octets,
             } => show_element(*place, *kind, octets, f),
             Step::User { place, count } => write!(f, "at {place}: user octets: {count}"),
+            // Two arms: the codes are of two types.
             Step::ErrorTold(code) => {
                 let n = code.number();
                 write!(f, "at 1: code {n} ({code})")

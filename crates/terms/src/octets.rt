@@ -2,7 +2,7 @@ ghost use Rattle.std.specs.Prelude.{◌≤◌};
 
 use std::fmt;
 
-// Up to `CAP` octets, held in the value itself: what a phone can hold without a heap. The kit's `ArrayVec` is no `Copy`, and
+// Up to `CAP` octets, held in the value itself: what a phone can hold without a heap. The kit's `ArrayVec` is not `Copy`, and
 // codes and addresses are handed on by value. No `impl Model`: a `Copy` would have to give back
 // from its view what stands behind the octets.
 #[derive(Clone, Copy)]
@@ -85,7 +85,7 @@ impl<const CAP: usize> Octets<CAP> {
         &self.cells[..self.len]
     }
 
-    // Copies them to the front of a buffer, and tells how many they are.
+    // Copies them to the front of a buffer, and tells how many there are.
     pub fn copy_to(&self, out: &mut [u8; CAP]) -> usize
         ensures count { result ≡ length (octets_of self.now) }
         ensures copied { out.new ≡ octets_of self.now ++ drop (length (octets_of self.now)) out.old }

@@ -55,7 +55,7 @@ impl fmt::Display for ErrorCode {
 }
 
 // Why a dialogue is released, as an RD PDU tells it. It stands beside ErrorCode, which has the same shape: one text for both would need a
-// trait with two tables, and is no plainer.
+// trait with two tables, and be no plainer.
 #[derive(Clone, Copy, PartialEq, Eq, Debug)]
 pub enum ReleaseCode {
     Unknown = 0,

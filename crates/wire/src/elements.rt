@@ -3,7 +3,7 @@ ghost use Rattle.std.specs.Prelude.{◌+◌, ◌^◌, ◌<◌, length};
 use terms::cause::Cause;
 use terms::fault::{Fault, Layer};
 
-// An element of a header, with the place of its type octet.
+// An element of a header, with the place of its type octet. A type is any octet, so it is no enum.
 #[derive(Clone, Copy)]
 pub struct Element<'a> {
     pub place: usize,

@@ -50,7 +50,7 @@ pub struct Segment {
     ghost high: { sequence ≤ count },
 }
 
-// The numbers of a segment as they stand in a string, with the place of the sequence octet. They hold no invariant as those of Segment do,
+// The numbers of a segment as they stand in a string, with the place of the sequence octet. Unlike those of Segment they hold no invariant,
 // since the definitions of the format name them for any three octets, lawful or not.
 #[derive(Clone, Copy, PartialEq, Eq, Debug)]
 pub struct SegmentAt {

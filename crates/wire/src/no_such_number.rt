@@ -1,7 +1,7 @@
 use std::error::Error;
 use std::fmt;
 
-// A number that names nothing where it stands: no type of PDU or of address, no code.
+// A number that names nothing where it stands: no type of PDU, of address or of number, no code.
 #[derive(Clone, Copy, PartialEq, Eq, Debug)]
 pub struct NoSuchNumber;
 

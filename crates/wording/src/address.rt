@@ -49,7 +49,8 @@ impl<'a> Address<'a> {
     }
 }
 
-// The number in a field's content: digit count, type octet, digits.
+// The number in a field's content: digit count, type octet, digits. A lawful field has one of the two types; for any other octet the definitions
+// say Unknown.
 fn number(content: &[u8]) -> Address<'_>
     requires { 2 ≤ length content.now }
     ensures { seen result ≡ number_in content.now }

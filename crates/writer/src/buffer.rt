@@ -13,7 +13,7 @@ pub(crate) fn write_all(parts: &[&[u8]], out: &mut [u8]) -> Result<usize, Refusa
     for part in parts {
         room = room.checked_sub(part.len()).ok_or(Refusal::Buffer)?;
     }
-    // Counted beside the loop: the place of the next part is at last the answer.
+    // Counted beside the loop: where the next part would go is, in the end, the answer.
     let mut at = 0;
     for part in parts {
         let end = at + part.len();
