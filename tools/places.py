@@ -1,7 +1,7 @@
 #!/usr/bin/env python3
 """Lists the places in src/ where an older form may stand, point by point, for docs/DESIGN-PASS.md.
 
-    python3 tools/places.py [FOLDER] [POINT]
+    python3 tools/places.py [FOLDER] [POINT..]
 
 FOLDER is the top of a checkout (this one by default). Each line is a candidate; the page tells what was made of it."""
 import re
