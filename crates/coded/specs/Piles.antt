@@ -183,7 +183,7 @@ module _ {top : ℕ} {encoded : List ℕ → List ℕ} {decoded : List ℕ → O
       record { answer = z.answer; copied = z.copied; after = ap (above decoded size) w ∙ z.after }
 
   -- the string under way, told and copied
-  tells_by : (s : Option String) (place new old string : List ℕ) (k : ℕ) (t : Result ℕ Garbled) → Some (Ok k) ≡ text_of s → string ≡ over s old
+  pub tells_by : (s : Option String) (place new old string : List ℕ) (k : ℕ) (t : Result ℕ Garbled) → Some (Ok k) ≡ text_of s → string ≡ over s old
       → t ≡ text_in (string_from (decoded (take k string))) → new ≡ over (Some (string_from (decoded (take k string)))) place
       → (Some t ≡ text_of (option_above s)) × (new ≡ over (option_above s) place)
   tells_by None place new old string k t a b h g = cc

@@ -46,7 +46,7 @@ fn line_of(place: Place, string: &[u8]) -> Octets<ROOM>
 {
     let mut text = [0; 2 * ussd::ROOM];
     let count = encode(string, &mut text).unwrap();
-    let mut line = head_of(place);
+    let mut line = Octets::of(head_of(place).as_slice()).unwrap();
     line.append(&text[..count]).unwrap();
     line.append(tail()).unwrap();
     line

@@ -2,7 +2,6 @@ ghost use Rattle.std.specs.Prelude.{◌≡◌, ◌≤◌, length};
 ghost use Rattle.terms.specs.Octets.{octets_of};
 ghost use Rattle.gateway.specs.Form.{message_type, component_type, head as head_at, tail as tail_of};
 
-use crate::row::ROOM;
 use bearer::side::Side;
 use itoa::Buffer;
 use lines::place::Place;
@@ -25,8 +24,11 @@ fn component_type(opening: bool, from: Side) -> &'static [u8]
     }
 }
 
+// How many octets the front of a line has room for: it is made anew each time a line is read, so it is no longer than it need be.
+pub(crate) const HEAD: usize = 120;
+
 // All of a line before the string.
-pub(crate) fn head_of(place: Place) -> Octets<ROOM>
+pub(crate) fn head_of(place: Place) -> Octets<HEAD>
     ensures octets { octets_of result ≡ head_at place }
     ensures len { length (octets_of result) ≤ 120 }
 {

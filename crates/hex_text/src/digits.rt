@@ -1,5 +1,5 @@
-ghost use Rattle.std.specs.Prelude.{◌≡◌, ◌<◌};
-ghost use Rattle.hex_text.specs.Hex.{digit_of, is_digit, digit_value, is_hex};
+ghost use Rattle.std.specs.Prelude.{◌≡◌, ◌<◌, true};
+ghost use Rattle.hex_text.specs.Hex.{digit_of, is_digit, value_of, digit_value, is_hex};
 
 // The character of a half octet.
 pub(crate) fn digit(value: u8) -> u8
@@ -21,6 +21,20 @@ pub(crate) fn value(c: u8) -> Option<u8>
         b'0'..=b'9' => Some(c - b'0'),
         b'A'..=b'F' => Some(c - b'A' + 10),
         _ => None,
+    }
+}
+
+// The half octet that a digit stands for: `value` where that is known to be one, and so without a test. Reading text asks it of every
+// character, and a test there doubles the time.
+pub(crate) fn worth(digit: u8) -> u8
+    requires { is_digit digit ≡ true }
+    ensures value { result ≡ value_of digit }
+    ensures small { result < 16 }
+{
+    if digit <= b'9' {
+        digit - b'0'
+    } else {
+        digit - (b'A' - 10)
     }
 }
 

@@ -3,7 +3,7 @@ ghost use Rattle.terms.specs.Buffer.{answer_of, left_in};
 ghost use Rattle.terms.specs.Decoded.{decoded_by, decoded_in};
 ghost use Rattle.hex_text.specs.Hex.{hex_of, is_hex, octets_in, unhex};
 
-use crate::digits::{digit, is_hex, value};
+use crate::digits::{digit, is_hex, worth};
 use terms::cause::Cause;
 use terms::fault::{Fault, Layer};
 use terms::refusal::Refusal;
@@ -39,7 +39,7 @@ fn put_octets(text: &[u8], out: &mut [u8])
     ensures { out.new ≡ octets_in text.now ++ drop (length (octets_in text.now)) out.old }
 {
     for (i, pair) in text.chunks_exact(2).enumerate() {
-        out[i] = value(pair[0]).unwrap() * 16 + value(pair[1]).unwrap();
+        out[i] = worth(pair[0]) * 16 + worth(pair[1]);
     }
 }
 

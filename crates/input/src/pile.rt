@@ -52,6 +52,9 @@ pub enum Pile {
     Two(CodingName, CodingName),
 }
 
+// How long the longest name of a pile is, `septets,septets`. A longer word names none, and its comma is not looked for.
+const LONGEST: usize = 15;
+
 // The codings of a pile, joined by a comma.
 impl FromStr for Pile {
     type Err = NoSuchCoding;
@@ -64,6 +67,9 @@ impl FromStr for Pile {
     ghost from_str_gives = { λ words r. r ≡ ok_or (named piles words) (record {}) };
 
     fn from_str(words: &str) -> Result<Pile, NoSuchCoding> {
+        if words.len() > LONGEST {
+            return Err(NoSuchCoding);
+        }
         match words.split_once(',') {
             None => Ok(Pile::One(words.parse()?)),
             Some((low, high)) => Ok(Pile::Two(low.parse()?, high.parse()?)),

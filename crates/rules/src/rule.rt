@@ -56,13 +56,13 @@ fn field_rule(s: &[u8]) -> Option<Rule>
     broken_in(field).map(Rule::Address)
 }
 
-// What is left, from a place behind its length octet on, of the header that begins at `header`.
-fn header_left(s: &[u8], header: usize, place: usize) -> Option<&[u8]> {
-    let end = Elements::of(s, header)?.end();
-    if place <= header {
-        return None;
+// What is left, from a place behind its length octet on, of the header that begins at `header`; the whole string where the header does
+// not lie in it, or the place is not behind the length octet.
+fn header_left(s: &[u8], header: usize, place: usize) -> &[u8] {
+    match Elements::of(s, header) {
+        Some(elements) if place > header => s.get(place..elements.end()).unwrap_or(&[]),
+        _ => s,
     }
-    s.get(place..end)
 }
 
 fn header_rule(s: &[u8], place: usize) -> Option<Rule>
@@ -73,7 +73,7 @@ fn header_rule(s: &[u8], place: usize) -> Option<Rule>
         let octets = s.get(header..).unwrap_or(&[]);
         return Some(Rule::Header(length_rule(octets)));
     }
-    element_rule(header_left(s, header, place)?).map(Rule::Header)
+    element_rule(header_left(s, header, place)).map(Rule::Header)
 }
 
 // The rule that a fault of a cause, at a place of a string, broke; none where the string has no such fault.
